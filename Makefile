@@ -1,0 +1,17 @@
+# make run    the main job on its built-in example
+# make test   proves every crate from nothing and runs all tests: the gate
+# make bench  speed, as ratios to an ordinary Rust program
+.PHONY: run test bench
+
+run:
+	@scripts/setup
+	@rt check vectors >target.log 2>&1 || { cat target.log; rm -f target.log; exit 1; }
+	@rm -f target.log
+	@target/bin/vectors
+
+test:
+	@scripts/gate
+
+bench:
+	@scripts/setup
+	@bench/hash.sh
