@@ -1,0 +1,13 @@
+pub mod Cuts
+pub mod Scans
+pub mod States
+pub mod Invariant
+pub mod Feeding
+pub mod Agreement
+pub mod Histories
+pub mod Onward
+pub mod Cutting
+pub mod Pieces
+pub mod Growing
+pub mod Toy
+pub mod Example

@@ -1,0 +1,4 @@
+pub mod Reading
+pub mod Calls
+pub mod Machine
+pub mod Resuming
