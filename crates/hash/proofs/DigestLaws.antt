@@ -1,0 +1,52 @@
+-- The hash is 64 bytes: its length, and that each number of it is below 256.
+-- Assumes nothing.
+use mathlib.Core.Path.{_≡_, refl, ap, _∙_}
+use mathlib.Core.List.{List, [], _∷_, _++_}
+use Prim.Native.Nat.{ℕ, zero, suc, _+_, _*_, _/_, _%_, _<_}
+use native.Mathlib.Omega.{arith}
+use lib.ListN.{length, getD, drop}
+use Rattle.hash.specs.Sha2.{Variant, blockSize, bytesOf, padded, parsed, sums, compressed, hashed, unparsed, digest}
+use Rattle.hash.specs.Sha512.{variant, initialWords, sha512}
+use Rattle.hash.proofs.ByteLaws.{long-unparsed}
+
+-- each element is a byte (past the end `getD` gives 0)
+abbrev pub AreBytes : List ℕ → Type 0
+AreBytes l = (i : ℕ) → getD l i 0 < 256
+
+bytes-append : (l r : List ℕ) → AreBytes l → AreBytes r → AreBytes (l ++ r)
+bytes-append [] r h k i = k i
+bytes-append (x ∷ l) r h k zero = h 0
+bytes-append (x ∷ l) r h k (suc i) = bytes-append l r (λ j. h (suc j)) k i
+
+bytes-one : (n : ℕ) → AreBytes (n % 256 ∷ [])
+bytes-one n zero = omega arith
+bytes-one n (suc i) = omega arith
+
+bytes-of : (k n : ℕ) → AreBytes (bytesOf k n)
+unfolding bytesOf
+bytes-of zero n i = omega arith
+bytes-of (suc k) n i = bytes-append (bytesOf k (n / 256)) (n % 256 ∷ []) (bytes-of k (n / 256)) (bytes-one n) i
+
+bytes-unparsed : (v : Variant) (s : List ℕ) → AreBytes (unparsed v s)
+unfolding unparsed
+bytes-unparsed v [] i = omega arith
+bytes-unparsed v (x ∷ s) i = bytes-append (bytesOf (v .bytes) x) (unparsed v s) (bytes-of (v .bytes) x) (bytes-unparsed v s) i
+
+-- a hash value has eight words
+pub long-hashed : (v : Variant) (n : ℕ) (p s : List ℕ) → length s ≡ 8 → length (hashed v n p s) ≡ 8
+unfolding hashed compressed sums
+long-hashed v zero p s h = h
+long-hashed v (suc n) p s h = long-hashed v n (drop (blockSize v) p) (compressed v (parsed v 16 p) s) refl
+
+pub length-sha512 : (m : List ℕ) → length (sha512 m) ≡ 64
+unfolding sha512 digest
+length-sha512 m =
+    let p = padded variant m in
+    let s = hashed variant (length p / 128) p initialWords in
+    long-unparsed variant s ∙ ap (λ (n : ℕ). n * 8) (long-hashed variant (length p / 128) p initialWords refl)
+
+pub bytes-sha512 : (m : List ℕ) → AreBytes (sha512 m)
+unfolding sha512 digest
+bytes-sha512 m =
+    let p = padded variant m in
+    bytes-unparsed variant (hashed variant (length p / 128) p initialWords)

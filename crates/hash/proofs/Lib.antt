@@ -1,0 +1,4 @@
+pub mod ByteLaws
+pub mod BlockLaws
+pub mod LastLaws
+pub mod DigestLaws

@@ -1,0 +1,85 @@
+-- The words read so far stand in front of those of the entry.
+use mathlib.Core.Path.{_≡_, refl}
+use mathlib.Core.List.{List, _++_}
+use Prim.Native.Nat.{ℕ, _+_, _-_, _*_, _≤_}
+use native.Mathlib.Omega.{arith}
+use denote.Ref.{now}
+use lib.ListN.{length, take, drop}
+use lib.Seq.{drop-drop}
+use Rattle.hash.specs.Sha2.{number, parsed}
+use Rattle.hash.specs.Sha512.{variant}
+use Rattle.hash.proofs.BlockLaws.{parse-turn}
+use Rattle.hash.proofs.block.load.Statement.{statement}
+use Rattle.hash.proofs.block.load.Tie as tie
+
+abbrev Inv-loop : tie.InvT-loop
+Inv-loop w₀ p at i₀ w i = (w ≡ parsed variant i (drop at p) ++ drop i w₀) × (i ≤ 16) × (at + 128 ≤ length p) × (length w₀ ≡ 80)
+
+abbrev μ-loop : tie.MeasureT-loop
+μ-loop w₀ p at i₀ w i = 16 - i
+
+-- a word's place, in the block and in the whole
+place : (p : List ℕ) (at i x : ℕ) → x ≡ number 0 (take 8 (drop (at + i * 8) p)) → x ≡ number 0 (take 8 (drop (i * 8) (drop at p)))
+place p at i x e = rw (drop-drop (i * 8) at p) e
+
+last : (p d w : List ℕ) (at i : ℕ) → i ≡ 16 → w ≡ parsed variant i (drop at p) ++ drop i d → w ≡ parsed variant 16 (drop at p) ++ drop 16 d
+last p d w at i e f = rw e at f
+
+loop-holds : tie.Need-loop-holds Inv-loop μ-loop
+unfolding parsed
+loop-holds c = (refl, omega arith, c .before .pre .0, c .before .pre .1)
+
+mul-word-at : tie.Need-mul-word-at Inv-loop μ-loop
+mul-word-at c = omega arith
+
+add-word-at : tie.Need-add-word-at Inv-loop μ-loop
+add-word-at c = omega arith
+
+word-at-requires : tie.Need-word-at-requires Inv-loop μ-loop
+word-at-requires c κs = omega arith
+
+mul-w : tie.Need-mul-w Inv-loop μ-loop
+mul-w c = omega arith
+
+element-write-w : tie.Need-element-write-w Inv-loop μ-loop
+element-write-w c = omega arith
+
+add-i : tie.Need-add-i Inv-loop μ-loop
+add-i c = omega arith
+
+loop-less : tie.Need-loop-less Inv-loop μ-loop
+loop-less c = omega arith
+
+loop-again : tie.Need-loop-again Inv-loop μ-loop
+loop-again c =
+    let a = c .before .before in
+    let r = a .before .before .args in (
+      parse-turn variant (drop (r .at) (now (r .p))) _ (a .loop .w) (a .loop .i) (c .word-at .result) (a .loop .inv .0) (omega arith)
+          (place (now (r .p)) (r .at) (a .loop .i) (c .word-at .result) (c .word-at .ensures)),
+      omega arith,
+      a .loop .inv .2,
+      a .loop .inv .3,
+    )
+
+returns : tie.Need-returns Inv-loop μ-loop
+returns c =
+    let a = c .before in
+    let r = a .before .before .args in
+    last (now (r .p)) (now (r .w)) (a .loop .w) (r .at) (a .loop .i) (omega arith) (a .loop .inv .0)
+
+pub load-spec : {M : Type 1} → statement M
+load-spec =
+    tie.close
+    (tie.spec
+    Inv-loop
+    μ-loop
+    loop-holds
+    mul-word-at
+    add-word-at
+    word-at-requires
+    mul-w
+    element-write-w
+    add-i
+    loop-less
+    loop-again
+    returns)

@@ -1,0 +1,152 @@
+-- One round: each sum and function by what its call ensures.
+use mathlib.Core.Path.{_≡_}
+use mathlib.Core.List.{List, [], _∷_}
+use Prim.Native.Nat.{ℕ}
+use borrow.Author.Needs.{needs}
+use lib.ListN.{getD}
+use Rattle.hash.specs.Sha2.{plus, ch, maj, Σ, round}
+use Rattle.hash.specs.Sha512.{variant}
+use Rattle.hash.proofs.block.step.Statement.{statement}
+use Rattle.hash.proofs.block.step.Tie as tie
+
+joined :
+    (k w : ℕ) (s : List ℕ) (x1 t1a x2 t1b t1c t1 x3 x4 t2 a e : ℕ)
+    → x1 ≡ Σ variant (variant .big1) (getD s 4 0) → t1a ≡ plus variant (getD s 7 0) x1
+    → x2 ≡ ch variant (getD s 4 0) (getD s 5 0) (getD s 6 0) → t1b ≡ plus variant t1a x2
+    → t1c ≡ plus variant t1b k → t1 ≡ plus variant t1c w
+    → x3 ≡ Σ variant (variant .big0) (getD s 0 0) → x4 ≡ maj (getD s 0 0) (getD s 1 0) (getD s 2 0) → t2 ≡ plus variant x3 x4
+    → a ≡ plus variant t1 t2 → e ≡ plus variant (getD s 3 0) t1
+    → _≡_ {A = List ℕ} (a ∷ getD s 0 0 ∷ getD s 1 0 ∷ getD s 2 0 ∷ e ∷ getD s 4 0 ∷ getD s 5 0 ∷ getD s 6 0 ∷ []) (round variant k w s)
+unfolding round
+joined k w s x1 t1a x2 t1b t1c t1 x3 x4 t2 a e p1 q1 p2 q2 q3 q4 p3 p4 q5 q6 q7 = rw (q6, q7, q4, q3, q2, q1, p1, p2, q5, p3, p4)
+
+array-read-wrapping-add-u64 : tie.Need-array-read-wrapping-add-u64
+array-read-wrapping-add-u64 c = search needs
+
+array-read-big1 : tie.Need-array-read-big1
+array-read-big1 c = search needs
+
+big1-requires : tie.Need-big1-requires
+big1-requires c κs = search needs
+
+wrapping-add-u64-requires : tie.Need-wrapping-add-u64-requires
+wrapping-add-u64-requires c κs = search needs
+
+array-read-choose : tie.Need-array-read-choose
+array-read-choose c = search needs
+
+array-read-choose-2 : tie.Need-array-read-choose-2
+array-read-choose-2 c = search needs
+
+array-read-choose-3 : tie.Need-array-read-choose-3
+array-read-choose-3 c = search needs
+
+choose-requires : tie.Need-choose-requires
+choose-requires c κs = search needs
+
+wrapping-add-u64-requires-2 : tie.Need-wrapping-add-u64-requires-2
+wrapping-add-u64-requires-2 c κs = search needs
+
+wrapping-add-u64-requires-3 : tie.Need-wrapping-add-u64-requires-3
+wrapping-add-u64-requires-3 c κs = search needs
+
+wrapping-add-u64-requires-4 : tie.Need-wrapping-add-u64-requires-4
+wrapping-add-u64-requires-4 c κs = search needs
+
+array-read-big0 : tie.Need-array-read-big0
+array-read-big0 c = search needs
+
+big0-requires : tie.Need-big0-requires
+big0-requires c κs = search needs
+
+array-read-majority : tie.Need-array-read-majority
+array-read-majority c = search needs
+
+array-read-majority-2 : tie.Need-array-read-majority-2
+array-read-majority-2 c = search needs
+
+array-read-majority-3 : tie.Need-array-read-majority-3
+array-read-majority-3 c = search needs
+
+majority-requires : tie.Need-majority-requires
+majority-requires c κs = search needs
+
+wrapping-add-u64-requires-5 : tie.Need-wrapping-add-u64-requires-5
+wrapping-add-u64-requires-5 c κs = search needs
+
+wrapping-add-u64-requires-6 : tie.Need-wrapping-add-u64-requires-6
+wrapping-add-u64-requires-6 c κs = search needs
+
+array-read-t16 : tie.Need-array-read-t16
+array-read-t16 c = search needs
+
+array-read-t17 : tie.Need-array-read-t17
+array-read-t17 c = search needs
+
+array-read-t20 : tie.Need-array-read-t20
+array-read-t20 c = search needs
+
+array-read-wrapping-add-u64-2 : tie.Need-array-read-wrapping-add-u64-2
+array-read-wrapping-add-u64-2 c = search needs
+
+wrapping-add-u64-requires-7 : tie.Need-wrapping-add-u64-requires-7
+wrapping-add-u64-requires-7 c κs = search needs
+
+array-read-t7 : tie.Need-array-read-t7
+array-read-t7 c = search needs
+
+array-read-t12 : tie.Need-array-read-t12
+array-read-t12 c = search needs
+
+array-read-t9 : tie.Need-array-read-t9
+array-read-t9 c = search needs
+
+returns : tie.Need-returns
+returns c =
+    let c1 = c .before in
+    let c2 = c1 .before in
+    let c3 = c2 .before in
+    let c4 = c3 .before in
+    let c5 = c4 .before in
+    let c6 = c5 .before in
+    let c7 = c6 .before in
+    let c8 = c7 .before in
+    let c9 = c8 .before in
+    let c10 = c9 .before in
+    joined _ _ _ _ _ _ _ _ _ _ _ _ _ _
+    (c10 .big1 .ensures) (c9 .wrapping-add-u64 .ensures) (c8 .choose .ensures) (c7 .wrapping-add-u642 .ensures)
+    (c6 .wrapping-add-u643 .ensures) (c5 .wrapping-add-u644 .ensures) (c4 .big0 .ensures) (c3 .majority .ensures)
+    (c2 .wrapping-add-u645 .ensures) (c1 .wrapping-add-u646 .ensures) (c .wrapping-add-u647 .ensures)
+
+pub step-spec : {M : Type 1} → statement M
+step-spec =
+    tie.close
+    (tie.spec
+    array-read-wrapping-add-u64
+    array-read-big1
+    big1-requires
+    wrapping-add-u64-requires
+    array-read-choose
+    array-read-choose-2
+    array-read-choose-3
+    choose-requires
+    wrapping-add-u64-requires-2
+    wrapping-add-u64-requires-3
+    wrapping-add-u64-requires-4
+    array-read-big0
+    big0-requires
+    array-read-majority
+    array-read-majority-2
+    array-read-majority-3
+    majority-requires
+    wrapping-add-u64-requires-5
+    wrapping-add-u64-requires-6
+    array-read-t16
+    array-read-t17
+    array-read-t20
+    array-read-wrapping-add-u64-2
+    wrapping-add-u64-requires-7
+    array-read-t7
+    array-read-t12
+    array-read-t9
+    returns)

@@ -1,0 +1,132 @@
+-- The eight sums by what each call ensures.
+use mathlib.Core.Path.{_≡_}
+use mathlib.Core.List.{List, [], _∷_}
+use Prim.Native.Nat.{ℕ}
+use borrow.Author.Needs.{needs}
+use Rattle.hash.specs.Sha2.{sum, sums}
+use Rattle.hash.specs.Sha512.{variant}
+use Rattle.hash.proofs.block.sum.Statement.{statement}
+use Rattle.hash.proofs.block.sum.Tie as tie
+
+joined :
+    (s t : List ℕ) (x0 x1 x2 x3 x4 x5 x6 x7 : ℕ)
+    → x0 ≡ sum variant s t 0 → x1 ≡ sum variant s t 1 → x2 ≡ sum variant s t 2 → x3 ≡ sum variant s t 3
+    → x4 ≡ sum variant s t 4 → x5 ≡ sum variant s t 5 → x6 ≡ sum variant s t 6 → x7 ≡ sum variant s t 7
+    → _≡_ {A = List ℕ} (x0 ∷ x1 ∷ x2 ∷ x3 ∷ x4 ∷ x5 ∷ x6 ∷ x7 ∷ []) (sums variant s t)
+unfolding sums
+joined s t x0 x1 x2 x3 x4 x5 x6 x7 e0 e1 e2 e3 e4 e5 e6 e7 = rw (e0, e1, e2, e3, e4, e5, e6, e7)
+
+array-read-wrapping-add-u64 : tie.Need-array-read-wrapping-add-u64
+array-read-wrapping-add-u64 c = search needs
+
+array-read-wrapping-add-u64-2 : tie.Need-array-read-wrapping-add-u64-2
+array-read-wrapping-add-u64-2 c = search needs
+
+wrapping-add-u64-requires : tie.Need-wrapping-add-u64-requires
+wrapping-add-u64-requires c κs = search needs
+
+array-read-wrapping-add-u64-3 : tie.Need-array-read-wrapping-add-u64-3
+array-read-wrapping-add-u64-3 c = search needs
+
+array-read-wrapping-add-u64-4 : tie.Need-array-read-wrapping-add-u64-4
+array-read-wrapping-add-u64-4 c = search needs
+
+wrapping-add-u64-requires-2 : tie.Need-wrapping-add-u64-requires-2
+wrapping-add-u64-requires-2 c κs = search needs
+
+array-read-wrapping-add-u64-5 : tie.Need-array-read-wrapping-add-u64-5
+array-read-wrapping-add-u64-5 c = search needs
+
+array-read-wrapping-add-u64-6 : tie.Need-array-read-wrapping-add-u64-6
+array-read-wrapping-add-u64-6 c = search needs
+
+wrapping-add-u64-requires-3 : tie.Need-wrapping-add-u64-requires-3
+wrapping-add-u64-requires-3 c κs = search needs
+
+array-read-wrapping-add-u64-7 : tie.Need-array-read-wrapping-add-u64-7
+array-read-wrapping-add-u64-7 c = search needs
+
+array-read-wrapping-add-u64-8 : tie.Need-array-read-wrapping-add-u64-8
+array-read-wrapping-add-u64-8 c = search needs
+
+wrapping-add-u64-requires-4 : tie.Need-wrapping-add-u64-requires-4
+wrapping-add-u64-requires-4 c κs = search needs
+
+array-read-wrapping-add-u64-9 : tie.Need-array-read-wrapping-add-u64-9
+array-read-wrapping-add-u64-9 c = search needs
+
+array-read-wrapping-add-u64-10 : tie.Need-array-read-wrapping-add-u64-10
+array-read-wrapping-add-u64-10 c = search needs
+
+wrapping-add-u64-requires-5 : tie.Need-wrapping-add-u64-requires-5
+wrapping-add-u64-requires-5 c κs = search needs
+
+array-read-wrapping-add-u64-11 : tie.Need-array-read-wrapping-add-u64-11
+array-read-wrapping-add-u64-11 c = search needs
+
+array-read-wrapping-add-u64-12 : tie.Need-array-read-wrapping-add-u64-12
+array-read-wrapping-add-u64-12 c = search needs
+
+wrapping-add-u64-requires-6 : tie.Need-wrapping-add-u64-requires-6
+wrapping-add-u64-requires-6 c κs = search needs
+
+array-read-wrapping-add-u64-13 : tie.Need-array-read-wrapping-add-u64-13
+array-read-wrapping-add-u64-13 c = search needs
+
+array-read-wrapping-add-u64-14 : tie.Need-array-read-wrapping-add-u64-14
+array-read-wrapping-add-u64-14 c = search needs
+
+wrapping-add-u64-requires-7 : tie.Need-wrapping-add-u64-requires-7
+wrapping-add-u64-requires-7 c κs = search needs
+
+array-read-wrapping-add-u64-15 : tie.Need-array-read-wrapping-add-u64-15
+array-read-wrapping-add-u64-15 c = search needs
+
+array-read-wrapping-add-u64-16 : tie.Need-array-read-wrapping-add-u64-16
+array-read-wrapping-add-u64-16 c = search needs
+
+wrapping-add-u64-requires-8 : tie.Need-wrapping-add-u64-requires-8
+wrapping-add-u64-requires-8 c κs = search needs
+
+returns : tie.Need-returns
+returns c =
+    let c6 = c .before in
+    let c5 = c6 .before in
+    let c4 = c5 .before in
+    let c3 = c4 .before in
+    let c2 = c3 .before in
+    let c1 = c2 .before in
+    let c0 = c1 .before in
+    joined _ _ _ _ _ _ _ _ _ _
+    (c0 .wrapping-add-u64 .ensures) (c1 .wrapping-add-u642 .ensures) (c2 .wrapping-add-u643 .ensures) (c3 .wrapping-add-u644 .ensures)
+    (c4 .wrapping-add-u645 .ensures) (c5 .wrapping-add-u646 .ensures) (c6 .wrapping-add-u647 .ensures) (c .wrapping-add-u648 .ensures)
+
+pub sum-spec : {M : Type 1} → statement M
+sum-spec =
+    tie.close
+    (tie.spec
+    array-read-wrapping-add-u64
+    array-read-wrapping-add-u64-2
+    wrapping-add-u64-requires
+    array-read-wrapping-add-u64-3
+    array-read-wrapping-add-u64-4
+    wrapping-add-u64-requires-2
+    array-read-wrapping-add-u64-5
+    array-read-wrapping-add-u64-6
+    wrapping-add-u64-requires-3
+    array-read-wrapping-add-u64-7
+    array-read-wrapping-add-u64-8
+    wrapping-add-u64-requires-4
+    array-read-wrapping-add-u64-9
+    array-read-wrapping-add-u64-10
+    wrapping-add-u64-requires-5
+    array-read-wrapping-add-u64-11
+    array-read-wrapping-add-u64-12
+    wrapping-add-u64-requires-6
+    array-read-wrapping-add-u64-13
+    array-read-wrapping-add-u64-14
+    wrapping-add-u64-requires-7
+    array-read-wrapping-add-u64-15
+    array-read-wrapping-add-u64-16
+    wrapping-add-u64-requires-8
+    returns)

@@ -1,0 +1,4 @@
+pub mod Sha2
+pub mod Sha512
+pub mod Parts
+pub mod Example
