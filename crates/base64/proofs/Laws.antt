@@ -1,0 +1,71 @@
+-- What a caller may use of a text and its bytes without looking into them: their lengths, and that the bytes are bytes. Assumes nothing.
+use borrow.Author.Tests.{eqb-true, leb-true}
+use mathlib.Core.Bool.{Bool, true, false, _&&_}
+use mathlib.Core.List.{List}
+use mathlib.Core.Path.{_≡_, refl, ap, _∙_}
+use Prim.Native.Nat.{ℕ, zero, suc, _+_, _-_, _*_, _/_, _<_}
+use native.Mathlib.Omega.{arith}
+use lib.Dec.{eqb, leb}
+use lib.ListN.{length, getD, drop, length-drop}
+use Rattle.octets.specs.Choice.{pick}
+use Rattle.base64.specs.Base64.{first4, holdsOne, holdsTwo, holdsThree, isText, bytesOf, Decoded, answered, decoded}
+use Rattle.base64.proofs.Computed.{both-left, both-right}
+
+-- n bytes are n bytes
+pub bytes-length : (n : ℕ) (t : List ℕ) → length (bytesOf n t) ≡ n
+unfolding bytesOf
+bytes-length zero t = refl
+bytes-length (suc zero) t = refl
+bytes-length (suc (suc zero)) t = refl
+bytes-length (suc (suc (suc n))) t = ap (λ (k : ℕ). suc (suc (suc k))) (bytes-length n (drop 4 t))
+
+-- each of them is below 256
+pub bytes-below : (n : ℕ) (t : List ℕ) (i : ℕ) → getD (bytesOf n t) i 0 < 256
+unfolding bytesOf
+bytes-below zero t i = omega arith
+bytes-below (suc zero) t zero = omega arith
+bytes-below (suc zero) t (suc i) = omega arith
+bytes-below (suc (suc zero)) t zero = omega arith
+bytes-below (suc (suc zero)) t (suc zero) = omega arith
+bytes-below (suc (suc zero)) t (suc (suc i)) = omega arith
+bytes-below (suc (suc (suc n))) t zero = omega arith
+bytes-below (suc (suc (suc n))) t (suc zero) = omega arith
+bytes-below (suc (suc (suc n))) t (suc (suc zero)) = omega arith
+bytes-below (suc (suc (suc n))) t (suc (suc (suc i))) = bytes-below n (drop 4 t) i
+
+-- a text of n bytes has four characters for each three of them, begun or whole
+pub text-length : (n : ℕ) (t : List ℕ) → isText n t ≡ true → length t ≡ (n + 2) / 3 * 4
+unfolding isText
+text-length zero t h = eqb-true _ _ h
+text-length (suc zero) t h = eqb-true _ _ (both-left (eqb (length t) 4) (first4 holdsOne t) h)
+text-length (suc (suc zero)) t h = eqb-true _ _ (both-left (eqb (length t) 4) (first4 holdsTwo t) h)
+text-length (suc (suc (suc n))) t h =
+    let w = leb 4 (length t) && first4 holdsThree t in
+    let l = both-left (leb 4 (length t)) (first4 holdsThree t) (both-left w (isText n (drop 4 t)) h) in
+    let r = text-length n (drop 4 t) (both-right w (isText n (drop 4 t)) h) in
+    omega (arith, leb-true 4 (length t) l, length-drop 4 t, r)
+
+-- decoding, by what the text is
+pub decoded-text : (n : ℕ) (t buffer : List ℕ) → isText n t ≡ true → decoded n t buffer ≡ answered true (bytesOf n t)
+unfolding decoded
+decoded-text n t buffer h = rw h
+
+pub decoded-other : (n : ℕ) (t buffer : List ℕ) → isText n t ≡ false → decoded n t buffer ≡ answered false buffer
+unfolding decoded
+decoded-other n t buffer h = rw h
+
+-- what a caller learns of the answer and the buffer from a contract, `answered ok after ≡ decoded n t before`
+module _ (n : ℕ) (t before : List ℕ) {ok : Bool} {after : List ℕ} (said : answered ok after ≡ decoded n t before) where
+  pub answer-is : ok ≡ isText n t
+  unfolding decoded
+  answer-is = ap (λ (d : Decoded). d .ok) said ∙ by-test (isText n t)
+    where
+      by-test : (b : Bool) → pick b (answered true (bytesOf n t)) (answered false before) .ok ≡ b
+      by-test true = refl
+      by-test false = refl
+
+  pub buffer-read : isText n t ≡ true → after ≡ bytesOf n t
+  buffer-read h = ap (λ (d : Decoded). d .buffer) (said ∙ decoded-text n t before h)
+
+  pub buffer-kept : isText n t ≡ false → after ≡ before
+  buffer-kept h = ap (λ (d : Decoded). d .buffer) (said ∙ decoded-other n t before h)

@@ -1,0 +1,92 @@
+#!/usr/bin/env python3
+"""Writes what the program must write: `python3 expected.py > stdout`.
+
+SHA-512 is hashlib's. A text is the base64 of n bytes where base64's module decodes it to n bytes and encodes these to the same text again.
+"""
+import base64
+import binascii
+import hashlib
+
+
+def sha512(data):
+    return hashlib.sha512(data).digest()
+
+
+def messages():
+    print("SHA-512, FIPS 180-4")
+    alphabet = b"abcdefghijklmnopqrstu"
+    wide = b"".join(alphabet[i : i + 8] for i in range(14))
+    named = [('""', b""), ('"abc"', b"abc"), ("of the 896 bit message", wide)]
+    runs = [(f"of {n} times a", b"a" * n) for n in (111, 112, 127, 128, 239, 240, 1000000)]
+    for name, data in named + runs:
+        print("sha512", name, sha512(data).hex())
+
+
+def chain():
+    print('\nHash chain of "Hello world!" in blocks of 5 bytes')
+    body, last = b"Hello world!", b""
+    for i in range(0, len(body), 5):
+        last = sha512(last + body[i : i + 5])
+        print(f"hash({i // 5})", last.hex())
+
+
+def decoded(text, n):
+    try:
+        data = base64.b64decode(text, validate=True)
+    except binascii.Error:
+        return None
+    return data if len(data) == n and base64.b64encode(data) == text else None
+
+
+def answer(text, n):
+    data = decoded(text, n)
+    return "refused, buffer as it was" if data is None else f"ok [{data.hex()}]"
+
+
+def short_texts():
+    print("\nBase64, RFC 4648")
+    for n in range(7):
+        text = base64.b64encode(b"foobar"[:n])
+        print(f'{n} bytes "{text.decode()}":', answer(text, n))
+    for text, n in [(b"NhX4", 3), (b"Zh==", 1), (b"Zm9=", 2), (b"Zg=A", 1), (b"Zm9=", 3), (b"Zg==", 2)]:
+        print(f'{n} bytes "{text.decode()}":', answer(text, n))
+
+
+def texts(name, data, rest, bad):
+    n = len(data)
+    text = base64.b64encode(data)
+    print(f"\nBase64 of a {name}, {n} bytes")
+    print("good:", answer(text, n))
+    for what, other in bad(text):
+        assert len(other) == len(text) and other != text
+        print(f"{what}:", answer(other, n))
+    long = text + rest
+    assert len(long) == 90
+    found = [str(k) for k in range(91) if decoded(long[:k], n) is not None]
+    print("of its beginnings of 0 to 90 characters ok at:", " ".join(found))
+
+
+def key(text):
+    return [
+        ("a byte that is no letter", text.replace(b"W19j", b"W1-j")),
+        ("a letter for the padding", text[:-1] + b"A"),
+        ("padding for a letter", text[:-2] + b"=="),
+        ("spare bits set", text[:-2] + b"d="),
+    ]
+
+
+def signature(text):
+    return [
+        ("a byte that is no letter", text.replace(b"/", b"_")),
+        ("a letter for the padding", text[:-1] + b"A"),
+        ("padding for a letter", text[:-3] + b"==="),
+        ("spare bits set", text[:-3] + b"B=="),
+    ]
+
+
+messages()
+chain()
+short_texts()
+signature_bytes = bytes((3 + 7 * i) % 256 for i in range(64))
+texts("key", bytes(range(200, 232)), base64.b64encode(signature_bytes)[:46], key)
+texts("signature", signature_bytes, b"AA", signature)

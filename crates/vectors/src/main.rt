@@ -1,0 +1,13 @@
+// Runs published vectors and boundary cases over the libraries, and writes a line for each. The file `stdout`, which the run is held to,
+// is computed by other implementations of the same documents (see expected.py).
+mod digests;
+mod lines;
+mod texts;
+
+fn main() {
+    digests::messages();
+    digests::chain();
+    texts::short_texts();
+    texts::keys();
+    texts::signatures();
+}
