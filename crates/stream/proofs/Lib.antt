@@ -1,0 +1,12 @@
+pub mod Example
+pub mod Cases
+pub mod Truth
+pub mod RulesHold
+pub mod ScanSizes
+pub mod LineSizes
+pub mod NameSizes
+pub mod SigningSize
+pub mod MessageLaws
+pub mod Sound
+pub mod SoundJudge
+pub mod SoundReading

@@ -1,0 +1,112 @@
+-- The signing string of a good head is no longer than the head (paper 01, "The head"). Assumes nothing.
+use borrow.Author.Tests.{eqb-true, not-true}
+use mathlib.Core.Bool.{true, false, not}
+use mathlib.Core.List.{List, [], _∷_, _++_}
+use mathlib.Core.Path.{_≡_}
+use Prim.Native.Nat.{ℕ, zero, suc, _+_, _≤_}
+use native.Mathlib.Nat.{le-trans}
+use native.Mathlib.Omega.{arith}
+use lib.Dec.{eqb}
+use lib.ListN.{length, drop, length-append}
+use Rattle.octets.specs.Octets.{octets}
+use Rattle.stream.specs.Bytes.{lowered}
+use Rattle.stream.specs.Fields.{among, isDoubled, valueOf}
+use Rattle.stream.specs.Head.{headOf, headWith, statusDigits, listedNames, signedOf, signingString, textRules, trustRules, headFault}
+use Rattle.stream.specs.Limits.{headLimit}
+use Rattle.stream.specs.Lines.{Field, areFieldLines, statusScan, isStatusLine, statusOf}
+use Rattle.stream.specs.Ring.{Ring}
+use Rattle.stream.specs.Signatures.{sig0Scan, isSig0, listedFields, areFields, isNameList, responseStatus, created, sig0Name}
+use Rattle.stream.specs.Signing.{signingLine, joined}
+use Rattle.stream.specs.Template.{isLike, kept}
+use Rattle.stream.proofs.LineSizes.{fieldSize, field-lines-size, fields-size}
+use Rattle.stream.proofs.NameSizes.{names-size, value-size, signed-size}
+use Rattle.stream.proofs.RulesHold.{head-rules-hold}
+use Rattle.stream.proofs.ScanSizes.{total, scan-fits, first-two}
+use Rattle.stream.proofs.Truth.{left-holds, right-holds, left-fails, right-fails, lowered-length}
+
+-- ---- the signing string, by its lines
+
+line-size : (f : Field) → length (signingLine f) + 1 ≡ fieldSize f
+unfolding signingLine
+line-size f = omega (arith, length-append (lowered (f .name)) (octets ": " ++ f .value), lowered-length (f .name))
+
+pub joined-size : (fs : List Field) → length (joined fs) ≤ total fieldSize fs
+unfolding joined
+joined-size [] = omega arith
+joined-size (f ∷ []) = omega (arith, line-size f)
+joined-size (f ∷ g ∷ fs) = omega (arith, length-append (signingLine f) (10 ∷ joined (g ∷ fs)), line-size f, joined-size (g ∷ fs))
+
+-- ---- what the rules say
+
+pub status-size : (line : List ℕ) → isStatusLine line ≡ true → length (statusOf line) ≡ 3
+unfolding isStatusLine statusOf
+status-size line h =
+    eqb-true (length (kept 0 (statusScan line))) 3
+    (right-holds (isLike (statusScan line)) (eqb (length (kept 0 (statusScan line))) 3) h)
+
+-- the fixed texts of `X-Ouinet-Sig0` have 68 bytes, and `created` stands beside them
+sig0-size : (l : List ℕ) → isSig0 (sig0Scan l) ≡ true → 68 + length (kept 1 (sig0Scan l)) ≤ length l
+unfolding isSig0 sig0Scan
+sig0-size l h = omega (arith, first-two (sig0Scan l), scan-fits _ l (left-holds (isLike (sig0Scan l)) _ h))
+
+not-doubled-past : (k : ℕ) (n : List ℕ) (ns : List (List ℕ)) → isDoubled (n ∷ ns) ≡ false → isDoubled (n ∷ drop k ns) ≡ false
+unfolding isDoubled among
+not-doubled-past zero n ns h = h
+not-doubled-past (suc k) n [] h = h
+not-doubled-past (suc k) n (m ∷ ms) h =
+    let other : among n ms ≡ false = search (left-fails, right-fails) in
+    let single : isDoubled ms ≡ false = search (left-fails, right-fails) in
+    not-doubled-past k n ms (rw (other, single))
+
+-- the fields that the signature lists: they are there, and differ from each other and from `X-Ouinet-Sig0`
+record Listed (fs : List Field) (ns : List (List ℕ)) : Type 0 where
+  present : areFields fs ns ≡ true
+  different : isDoubled (sig0Name ∷ ns) ≡ false
+
+listed : (fs : List Field) (ns : List (List ℕ)) → isNameList fs ns ≡ true → Listed fs (listedFields ns)
+unfolding isNameList isDoubled
+listed fs ns h =
+    let there : areFields fs (listedFields ns) ≡ true = search (left-holds, right-holds) depth 10 in
+    let single : not (isDoubled ns) ≡ true = search (left-holds, right-holds) depth 10 in
+    let unlisted : not (among sig0Name ns) ≡ true = search (left-holds, right-holds) depth 10 in
+    record {
+      present = there;
+      different = not-doubled-past 2 sig0Name ns (rw (not-true (among sig0Name ns) unlisted, not-true (isDoubled ns) single));
+    }
+
+-- ---- the law
+
+-- From four of the head's rules. The lines after the first have two bytes more than the head at most. Of these `X-Ouinet-Sig0`
+-- has 68 and the digits of `created`, where the first two lines of the signing string have 35 and the same digits.
+pub signing-fits′ : (l : List ℕ) → isStatusLine (headOf l .statusLine) ≡ true → areFieldLines (headOf l .fieldLines) ≡ true
+    → isSig0 (headOf l .sig0) ≡ true → isNameList (headOf l .fields) (listedNames (headOf l)) ≡ true
+    → length (signingString (headOf l)) ≤ length l
+unfolding headOf headWith statusDigits signedOf signingString
+signing-fits′ l status lines sig0 names =
+    let fs : List Field = headOf l .fields in
+    let ns : List (List ℕ) = listedFields (listedNames (headOf l)) in
+    let x = listed fs (listedNames (headOf l)) names in
+    omega (
+      arith,
+      joined-size
+          (record { name = responseStatus; value = statusDigits (headOf l) }
+          ∷ record { name = created; value = kept 1 (headOf l .sig0) }
+          ∷ signedOf (headOf l)),
+      status-size (headOf l .statusLine) status,
+      signed-size fs ns (x .present),
+      sig0-size (valueOf sig0Name fs) sig0,
+      value-size fs sig0Name,
+      names-size fs (sig0Name ∷ ns) (x .different),
+      fields-size (headOf l .fieldLines) lines,
+      field-lines-size l,
+    )
+
+pub signing-fits : (ring : Ring) (l : List ℕ) → headFault ring l ≡ 0 → length (signingString (headOf l)) ≤ length l
+unfolding textRules trustRules
+signing-fits ring l h =
+    let rules = head-rules-hold ring l h in
+    signing-fits′ l (search) (search) (search) (search)
+
+-- a buffer of the head's limit has room for it
+pub signing-bound : (ring : Ring) (l : List ℕ) → headFault ring l ≡ 0 → length l ≤ headLimit → length (signingString (headOf l)) ≤ headLimit
+signing-bound ring l h k = le-trans (signing-fits ring l h) k

@@ -1,0 +1,160 @@
+-- Whatever a whole section says in a sound context is sound: the context that follows, and what is told. Assumes nothing.
+use mathlib.Core.Bool.{Bool, true, false, _&&_, _||_}
+use mathlib.Core.List.{List, [], _∷_}
+use mathlib.Core.Path.{_≡_, refl, sym, ap, _∙_}
+use Prim.Native.Nat.{ℕ, zero, suc, _+_, _*_, _≤_, _<_}
+use native.Mathlib.Omega.{arith}
+use native.Mathlib.Nat.{suc-mul, zero-mul}
+use lib.Dec.{eqb, leb}
+use lib.ListN.{length}
+use borrow.Author.Tests.{leb-true, eqb-true}
+use Rattle.base64.specs.Base64.{isText as isBase64}
+use Rattle.sections.specs.Reading.{Verdict, go, tell, ask, stop, Grant, granted, final}
+use Rattle.stream.specs.Blocks.{isChunkLine, carriesSignature, chunkSize, lineRules, lineFault, sameBool}
+use Rattle.stream.specs.Bytes.{between, same}
+use Rattle.stream.specs.Events.{Question, Release, headAccepted, block, LastWord, closed, refused}
+use Rattle.stream.specs.Head.{Head, headOf, textRules, trustRules, headFault, injectionId, blockSize}
+use Rattle.stream.specs.Limits.{headLimit, blockLimit, bodyLimit, idLimit, timeDigits}
+use Rattle.stream.specs.Lines.{crlf}
+use Rattle.stream.specs.Numbers.{isDecimal}
+use Rattle.stream.specs.Ring.{Ring}
+use Rattle.stream.specs.Rule.{rule, firstBroken}
+use Rattle.stream.specs.Signatures.{isInjection, isBsigs}
+use Rattle.stream.specs.Stream.{Show, Past, nothing, after, Context, head, firstLine, blockData, dataEnd, nextLine, trailer, isWhole, Says, announced, unlessBroken, showOf, headQuestion, acceptHead, judgeHead, judgeFirstLine, judgeDataEnd, blockOffset, bodyWith, blockQuestion, acceptBlock, judgeNextLine, judgeTrailer, judge}
+use Rattle.stream.specs.Template.{isLike, kept}
+use Rattle.stream.specs.Trailer.{isTrailer}
+use Rattle.stream.proofs.MessageLaws.{message-length}
+use Rattle.stream.proofs.RulesHold.{rules-hold, head-rules-hold}
+use Rattle.stream.proofs.SigningSize.{signing-bound}
+use Rattle.stream.proofs.Truth.{left-holds, right-holds, within}
+use Rattle.stream.proofs.Sound.{limitOf, SoundShow, SoundBlock, Sound}
+
+-- ---- what is told within the limits
+
+-- a block of 1 to 65,536 bytes, within the body's limit
+abbrev pub SoundRelease : Release → Type 0
+SoundRelease (headAccepted status fields) = Unit {0}
+SoundRelease (block offset b) = (1 ≤ length b) × (length b ≤ blockLimit) × (offset + length b ≤ bodyLimit)
+
+abbrev pub SoundLast : LastWord → Type 0
+SoundLast (closed total) = total ≤ bodyLimit
+SoundLast (refused n) = Unit {0}
+
+-- a message is no longer than a head may be
+abbrev pub SoundQuestion : Question → Type 0
+SoundQuestion q = length (q .message) ≤ headLimit
+
+abbrev pub SoundGrant : Grant Context Release LastWord → Type 0
+SoundGrant (granted e c) = SoundRelease e × Sound c
+SoundGrant (final l) = SoundLast l
+
+abbrev pub SoundSays : Says → Type 0
+SoundSays (go c) = Sound c
+SoundSays (tell e c) = SoundRelease e × Sound c
+SoundSays (ask q y) = SoundQuestion q × SoundGrant y
+SoundSays (stop l) = SoundLast l
+
+-- a refusal is sound, and so is what is said where no rule is broken
+unless-sound : (n : ℕ) (says : Says) → (n ≡ 0 → SoundSays says) → SoundSays (unlessBroken n says)
+unless-sound zero says h = h refl
+unless-sound (suc n) says h = tt
+
+-- ---- a chunk line
+
+-- what the rules of a line say of its size
+record LineKept (N sofar : ℕ) (full : Bool) (l : List ℕ) : Type 0 where
+  most : chunkSize l ≤ N
+  whole : full || eqb (chunkSize l) 0 ≡ true
+  body : sofar + chunkSize l ≤ bodyLimit
+
+line-kept : (N : ℕ) (due full : Bool) (sofar : ℕ) (l : List ℕ) → lineFault N due full sofar l ≡ 0 → LineKept N sofar full l
+unfolding lineFault lineRules
+line-kept N due full sofar l e =
+    let (r6, (r8, (r7, (r9, rest)))) = rules-hold (lineRules N due full sofar l) refl e in
+    record {
+      most = leb-true _ _ (left-holds (leb (chunkSize l) N) (full || eqb (chunkSize l) 0) r7);
+      whole = right-holds (leb (chunkSize l) N) (full || eqb (chunkSize l) 0) r7;
+      body = leb-true _ _ r9;
+    }
+
+announced-sound : (s : Show) (p : Past) (total n : ℕ) → SoundShow s → total ≤ bodyLimit → n ≤ s .size
+    → (1 ≤ n → blockOffset s p + n ≤ bodyLimit) → Sound (announced s p total n)
+announced-sound s p total zero k t h b = t
+announced-sound s p total (suc n) k t h b = record { show = k; some = omega arith; most = h; body = b (omega arith) }
+
+first-sound : (s : Show) (l : List ℕ) → SoundShow s → SoundSays (judgeFirstLine s l)
+unfolding judgeFirstLine
+first-sound s l k = unless-sound _ _ λ e.
+    let r = line-kept (s .size) false true 0 l e in
+    announced-sound s nothing 0 (chunkSize l) k (omega arith) (r .most) (λ h. rw zero-mul (r .body))
+
+-- a block that another one follows has N bytes
+full-block : (s : Show) (p : Past) (b l : List ℕ) → LineKept (s .size) (bodyWith s p b) (eqb (length b) (s .size)) l
+    → 1 ≤ chunkSize l → blockOffset s (after p b) + chunkSize l ≤ bodyLimit
+full-block s p b l r h =
+    let e : length b ≡ s .size = by (eqb (length b) (s .size)) refl (r .whole) in
+    let m : suc (p .blocks) * s .size ≡ blockOffset s p + length b = rw (suc-mul, e) in
+    rw m (r .body)
+  where
+    by : (t : Bool) → eqb (length b) (s .size) ≡ t → t || eqb (chunkSize l) 0 ≡ true → length b ≡ s .size
+    by true e w = eqb-true _ _ e
+    by false e w = absurd (omega (arith, eqb-true (chunkSize l) 0 w))
+
+next-sound : (s : Show) (p : Past) (b l : List ℕ) → SoundBlock s p (length b) → SoundSays (judgeNextLine s p b l)
+unfolding judgeNextLine acceptBlock blockQuestion
+next-sound s p b l k = unless-sound _ _ λ e.
+    let r = line-kept (s .size) true (eqb (length b) (s .size)) (bodyWith s p b) l e in
+    let o : blockOffset s p ≤ bodyLimit = omega (arith, k .body) in
+    let m = message-length (s .id) (blockOffset s p) (p .hash) b (k .show .short-id) o in (
+      omega arith,
+      (
+        (k .some, omega (arith, k .most, k .show .most), k .body),
+        announced-sound s (after p b) (bodyWith s p b) (chunkSize l) (k .show) (k .body) (r .most) (full-block s p b l r),
+      ),
+    )
+
+-- ---- the head
+
+show-sound : (ring : Ring) (h : Head) → isInjection (h .injection) ≡ true → isBsigs (h .bsigs) ≡ true → SoundShow (showOf ring h)
+unfolding showOf injectionId blockSize isInjection isBsigs
+show-sound ring h i b =
+    let s = h .injection in
+    let t = h .bsigs in
+    let id = within 1 idLimit _ (left-holds _ (isDecimal timeDigits (kept 1 s)) (right-holds (isLike s) _ i)) in
+    let n = within 1 blockLimit _ (right-holds (isDecimal 5 (kept 1 t)) _ (right-holds (isBase64 32 (kept 0 t)) _ (right-holds (isLike t) _ b))) in
+    record { some = n .0; most = n .1; short-id = id .1 }
+
+head-sound : (ring : Ring) (l : List ℕ) → length l ≤ headLimit → SoundSays (judgeHead ring l)
+unfolding judgeHead acceptHead headQuestion textRules trustRules
+head-sound ring l k = unless-sound _ (acceptHead ring (headOf l)) λ e.
+    let rules = head-rules-hold ring l e in
+    (signing-bound ring l e k, (tt, show-sound ring (headOf l) (search) (search)))
+
+-- ---- any section
+
+end-sound : (s : Show) (p : Past) (b l : List ℕ) → SoundBlock s p (length b) → SoundSays (judgeDataEnd s p b l)
+unfolding judgeDataEnd
+end-sound s p b l k = by (same l crlf)
+  where
+    by : (t : Bool) → SoundSays (elim t [ true ↦ go (nextLine s p b) | false ↦ stop (refused 6) ])
+    by true = k
+    by false = tt
+
+trailer-sound : (total : ℕ) (l : List ℕ) → total ≤ bodyLimit → SoundSays (judgeTrailer total l)
+unfolding judgeTrailer
+trailer-sound total l k = by (isTrailer l)
+  where
+    by : (t : Bool) → SoundSays (elim t [ true ↦ stop (closed total) | false ↦ stop (refused 6) ])
+    by true = k
+    by false = tt
+
+pub judge-sound : (ring : Ring) (c : Context) (l : List ℕ) → Sound c → isWhole c l ≡ true → length l ≤ limitOf c → SoundSays (judge ring c l)
+unfolding judge isWhole
+judge-sound ring head l k w m = head-sound ring l m
+judge-sound ring (firstLine s) l k w m = first-sound s l k
+judge-sound ring (blockData s p n) l k w m =
+    let e : length l ≡ n = omega (arith, leb-true n (length l) w) in
+    rw e k
+judge-sound ring (dataEnd s p b) l k w m = end-sound s p b l k
+judge-sound ring (nextLine s p b) l k w m = next-sound s p b l k
+judge-sound ring (trailer total) l k w m = trailer-sound total l k

@@ -1,0 +1,21 @@
+-- What the reading tells (paper 01, "How a sitting goes"): what each event carries. Assumes nothing.
+use mathlib.Core.List.{List}
+use Prim.Native.Nat.{ℕ}
+use Rattle.stream.specs.Lines.{Field}
+
+-- *question*: the message, the 64 signature bytes that are to be its signature, and the number of the key's record
+pub record Question : Type 0 where
+  pub message : List ℕ
+  pub signature : List ℕ
+  pub key : ℕ
+
+-- *head accepted*, with the status; the signed fields are those whose values are handed out from then on.
+-- *block*, with its offset; its bytes, whose number is its length, are what is handed out.
+pub data Release : Type 0 where
+  headAccepted : ℕ → List Field → Release
+  block : ℕ → List ℕ → Release
+
+-- *closed*, with the total, and *refused*, with its number: both are final
+pub data LastWord : Type 0 where
+  closed : ℕ → LastWord
+  refused : ℕ → LastWord

@@ -1,0 +1,131 @@
+-- The head: what it says, and the rules that it must keep, in the order in which they are tested (paper 01, "The head").
+-- Assumes nothing.
+use mathlib.Core.Bool.{Bool, true, false, _&&_, _||_, not}
+use mathlib.Core.List.{List, [], _∷_, _++_}
+use mathlib.Core.Option.{Option}
+use Prim.Native.Nat.{ℕ}
+use lib.Dec.{eqb, leb}
+use lib.ListN.{length, drop}
+use Rattle.octets.specs.Octets.{octets}
+use Rattle.base64.specs.Base64.{bytesOf}
+use Rattle.stream.specs.Bytes.{same, sameName}
+use Rattle.stream.specs.Fields.{isDoubled, namesOf, hasField, valueOf}
+use Rattle.stream.specs.Limits.{headLimit, fieldLimit}
+use Rattle.stream.specs.Lines.{crlf, endsWith, textLines, Field, areFieldLines, fieldsOf, isStatusLine, statusOf}
+use Rattle.stream.specs.Numbers.{decimalValue}
+use Rattle.stream.specs.Ring.{Ring, found, isFound, numberOf}
+use Rattle.stream.specs.Rule.{Rule, rule, firstBroken}
+use Rattle.stream.specs.Signatures.{injectionScan, isInjection, bsigsScan, isBsigs, sig0Scan, isSig0, splitNames, listedFields, isNameList, responseStatus, created, versionName, uriName, injectionName, bsigsName, sig0Name}
+use Rattle.stream.specs.Signing.{signedFields, joined}
+use Rattle.stream.specs.Template.{Scanned, kept, nth}
+
+-- "at the first CR LF CR LF, or refused with 3 when 8,192 bytes have come without it"
+unfoldable pub endsHead : List ℕ → Bool
+endsHead l = endsWith (crlf ++ crlf) l
+
+unfoldable pub isWholeHead : List ℕ → Bool
+isWholeHead l = endsHead l || leb headLimit (length l)
+
+-- ---- what a head says
+
+pub record Head : Type 0 where
+  -- the first line, and the lines after it
+  pub statusLine : List ℕ
+  pub fieldLines : List (List ℕ)
+  pub fields : List Field
+  -- the parameters: of `X-Ouinet-Injection` id and time, of `X-Ouinet-BSigs` key and size, of `X-Ouinet-Sig0` key,
+  -- creation time, names and signature
+  pub injection : Scanned
+  pub bsigs : Scanned
+  pub sig0 : Scanned
+
+unfoldable pub headWith : List ℕ → List (List ℕ) → List Field → Head
+headWith statusLine fieldLines fields =
+    record {
+      statusLine = statusLine;
+      fieldLines = fieldLines;
+      fields = fields;
+      injection = injectionScan (valueOf injectionName fields);
+      bsigs = bsigsScan (valueOf bsigsName fields);
+      sig0 = sig0Scan (valueOf sig0Name fields);
+    }
+
+unfoldable pub headOf : List ℕ → Head
+headOf l = headWith (nth 0 (textLines l)) (drop 1 (textLines l)) (fieldsOf (drop 1 (textLines l)))
+
+-- the three digits of the status
+unfoldable pub statusDigits : Head → List ℕ
+statusDigits h = statusOf (h .statusLine)
+
+unfoldable pub injectionId : Head → List ℕ
+injectionId h = kept 0 (h .injection)
+
+-- `ts`, in seconds
+unfoldable pub injectionTime : Head → ℕ
+injectionTime h = decimalValue (kept 1 (h .injection))
+
+-- N
+unfoldable pub blockSize : Head → ℕ
+blockSize h = decimalValue (kept 1 (h .bsigs))
+
+unfoldable pub blockKey : Head → List ℕ
+blockKey h = bytesOf 32 (kept 0 (h .bsigs))
+
+unfoldable pub headKey : Head → List ℕ
+headKey h = bytesOf 32 (kept 0 (h .sig0))
+
+unfoldable pub listedNames : Head → List (List ℕ)
+listedNames h = splitNames (kept 2 (h .sig0))
+
+unfoldable pub headSignature : Head → List ℕ
+headSignature h = bytesOf 64 (kept 3 (h .sig0))
+
+-- the fields whose values are handed out: "for fields in the signed list only"
+unfoldable pub signedOf : Head → List Field
+signedOf h = signedFields (h .fields) (listedFields (listedNames h))
+
+-- "`(response-status)` is the three digits, `(created)` the digits as given"
+unfoldable pub signingString : Head → List ℕ
+signingString h =
+    joined
+    (record { name = responseStatus; value = statusDigits h }
+    ∷ record { name = created; value = kept 1 (h .sig0) }
+    ∷ signedOf h)
+
+-- the number of the record that trusts the key of `X-Ouinet-Sig0` at the time `ts`
+unfoldable pub trustedBy : Ring → Head → Option ℕ
+trustedBy ring h = found (headKey h) (injectionTime h) ring
+
+-- ---- the rules of a head
+
+-- the statuses of paper 01
+abbrev pub isStatus : List ℕ → Bool
+isStatus d = same d (octets "200") || (same d (octets "301") || (same d (octets "302") || same d (octets "307")))
+
+-- "All of 3 is tested first, then 4 and 5 in the order listed"
+unfoldable pub textRules : List ℕ → Head → List Rule
+textRules l h =
+    rule 3 (endsHead l)
+    ∷ rule 3 (isStatusLine (h .statusLine))
+    ∷ rule 3 (areFieldLines (h .fieldLines))
+    ∷ rule 3 (leb (length (h .fields)) fieldLimit)
+    ∷ rule 3 (not (isDoubled (namesOf (h .fields))))
+    ∷ rule 4 (hasField versionName (h .fields))
+    ∷ rule 5 (same (valueOf versionName (h .fields)) (octets "4"))
+    ∷ rule 4 (isStatus (statusDigits h))
+    ∷ rule 4 (sameName (valueOf (octets "transfer-encoding") (h .fields)) (octets "chunked"))
+    ∷ rule 4 (not (hasField (octets "content-length") (h .fields)))
+    ∷ rule 4 (leb 1 (length (valueOf uriName (h .fields))))
+    ∷ rule 4 (isInjection (h .injection))
+    ∷ rule 4 (isBsigs (h .bsigs))
+    ∷ rule 4 (isSig0 (h .sig0))
+    ∷ rule 4 (isNameList (h .fields) (listedNames h))
+    ∷ []
+
+-- "then 12": no record that fits, "or a BSigs key unlike Sig0's"
+unfoldable pub trustRules : Ring → Head → List Rule
+trustRules ring h = rule 12 (isFound (trustedBy ring h)) ∷ rule 12 (same (blockKey h) (headKey h)) ∷ []
+
+-- the number of the first broken rule, 0 where the head is good
+unfoldable pub headFault : Ring → List ℕ → ℕ
+headFault ring l = firstBroken (textRules l (headOf l) ++ trustRules ring (headOf l))

@@ -1,0 +1,15 @@
+pub mod Limits
+pub mod Bytes
+pub mod Numbers
+pub mod Template
+pub mod Lines
+pub mod Fields
+pub mod Rule
+pub mod Ring
+pub mod Signatures
+pub mod Signing
+pub mod Events
+pub mod Head
+pub mod Blocks
+pub mod Trailer
+pub mod Stream

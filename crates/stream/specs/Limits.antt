@@ -1,0 +1,42 @@
+-- Paper 01's limits, each named once. Assumes nothing.
+use Prim.Native.Nat.{ℕ}
+
+-- a head, and a trailer, without its end is refused at this many bytes
+abbrev pub headLimit : ℕ
+headLimit = 8_192
+
+-- "at most 64 fields"
+abbrev pub fieldLimit : ℕ
+fieldLimit = 64
+
+-- "at most 32 in all": the names that a signature lists
+abbrev pub nameLimit : ℕ
+nameLimit = 32
+
+-- "1 to 64 letters, digits": the id of an injection
+abbrev pub idLimit : ℕ
+idLimit = 64
+
+-- "1 to 12 digits": a time in seconds
+abbrev pub timeDigits : ℕ
+timeDigits = 12
+
+-- "N from 1 to 65,536": the size of a block
+abbrev pub blockLimit : ℕ
+blockLimit = 65_536
+
+-- a chunk line without its end is refused at this many bytes
+abbrev pub lineLimit : ℕ
+lineLimit = 128
+
+-- "1 to 8 hex digits": a chunk's size
+abbrev pub sizeDigits : ℕ
+sizeDigits = 8
+
+-- the most bytes that a body may have
+abbrev pub bodyLimit : ℕ
+bodyLimit = 4_294_967_296
+
+-- "0 to 16 records": the key ring
+abbrev pub ringLimit : ℕ
+ringLimit = 16

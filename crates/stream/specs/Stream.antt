@@ -1,0 +1,138 @@
+-- The stream as a row of sections, and its plain reading (paper 01, "The plain reading"): head, then chunk line, data and
+-- data end by turns, after the 0 line the trailer. Assumes nothing.
+use mathlib.Core.Bool.{Bool, true, false}
+use mathlib.Core.List.{List, [], _∷_}
+use Prim.Native.Nat.{ℕ, zero, suc, _+_}
+use lib.Dec.{eqb, leb}
+use lib.ListN.{length}
+use Rattle.sections.specs.Reading.{Log, Verdict, go, ask, stop, granted, Rules, reading}
+use Rattle.stream.specs.Blocks.{isWholeLine, chunkSize, lineSignature, lineFault, chained, blockMessage, offsetOf}
+use Rattle.stream.specs.Bytes.{same}
+use Rattle.stream.specs.Events.{Question, Release, headAccepted, block, LastWord, closed, refused}
+use Rattle.stream.specs.Head.{Head, isWholeHead, headOf, headFault, statusDigits, injectionId, blockSize, headSignature, signedOf, signingString, trustedBy}
+use Rattle.stream.specs.Lines.{crlf}
+use Rattle.stream.specs.Numbers.{decimalValue}
+use Rattle.stream.specs.Ring.{Ring, numberOf}
+use Rattle.stream.specs.Trailer.{isWholeTrailer, isTrailer}
+
+-- what the head fixes for all that comes after it: the id, N, and the number of the key's record
+pub record Show : Type 0 where
+  pub id : List ℕ
+  pub size : ℕ
+  pub key : ℕ
+
+-- what came before a block: how many blocks, and the hash of the last of them, nothing where there is none
+pub record Past : Type 0 where
+  pub blocks : ℕ
+  pub hash : List ℕ
+
+abbrev pub nothing : Past
+nothing = record { blocks = 0; hash = [] }
+
+abbrev pub after : Past → List ℕ → Past
+after p b = record { blocks = suc (p .blocks); hash = chained (p .hash) b }
+
+-- what the sections before tell about the section to come
+pub data Context : Type 0 where
+  head : Context
+  firstLine : Show → Context
+  -- a block's data, of so many bytes; then its data end
+  blockData : Show → Past → ℕ → Context
+  dataEnd : Show → Past → List ℕ → Context
+  -- the line after that block, which carries its signature
+  nextLine : Show → Past → List ℕ → Context
+  -- the body has so many bytes
+  trailer : ℕ → Context
+
+-- a section is whole at its end, or at its length limit
+unfoldable pub isWhole : Context → List ℕ → Bool
+isWhole head l = isWholeHead l
+isWhole (firstLine s) l = isWholeLine l
+isWhole (blockData s p n) l = leb n (length l)
+isWhole (dataEnd s p b) l = leb 2 (length l)
+isWhole (nextLine s p b) l = isWholeLine l
+isWhole (trailer total) l = isWholeTrailer l
+
+abbrev pub Says : Type 0
+Says = Verdict Context Question Release LastWord
+
+-- where no rule is broken, what is said, else the refusal
+abbrev pub unlessBroken : ℕ → Says → Says
+unlessBroken zero says = says
+unlessBroken (suc n) says = stop (refused (suc n))
+
+-- after a line that announces n bytes: a block, or, "size 0 ends the body", the trailer of a body of `total` bytes
+abbrev pub announced : Show → Past → ℕ → ℕ → Context
+announced s p total zero = trailer total
+announced s p total (suc n) = blockData s p (suc n)
+
+-- ---- what each whole section says
+
+-- "A good head gives question: signing string, Sig0's signature, the record found"; a yes gives *head accepted*
+unfoldable pub showOf : Ring → Head → Show
+showOf ring h = record { id = injectionId h; size = blockSize h; key = numberOf (trustedBy ring h) }
+
+unfoldable pub headQuestion : Ring → Head → Question
+headQuestion ring h = record { message = signingString h; signature = headSignature h; key = numberOf (trustedBy ring h) }
+
+unfoldable pub acceptHead : Ring → Head → Says
+acceptHead ring h =
+    ask (headQuestion ring h) (granted (headAccepted (decimalValue (statusDigits h)) (signedOf h)) (firstLine (showOf ring h)))
+
+unfoldable pub judgeHead : Ring → List ℕ → Says
+judgeHead ring l = unlessBroken (headFault ring l) (acceptHead ring (headOf l))
+
+-- "The first line carries no `ouisig`"; nothing is asked
+unfoldable pub judgeFirstLine : Show → List ℕ → Says
+judgeFirstLine s l = unlessBroken (lineFault (s .size) false true 0 l) (go (announced s nothing 0 (chunkSize l)))
+
+-- "judged when both have come"
+unfoldable pub judgeDataEnd : Show → Past → List ℕ → List ℕ → Says
+judgeDataEnd s p b l = elim (same l crlf) [ true ↦ go (nextLine s p b) | false ↦ stop (refused 6) ]
+
+abbrev pub blockOffset : Show → Past → ℕ
+blockOffset s p = offsetOf (p .blocks) (s .size)
+
+-- the bytes of the body up to and with the block b
+abbrev pub bodyWith : Show → Past → List ℕ → ℕ
+bodyWith s p b = blockOffset s p + length b
+
+-- "A good line with `ouisig` gives one for the block before: block message, that signature, the same record"
+unfoldable pub blockQuestion : Show → Past → List ℕ → List ℕ → Question
+blockQuestion s p b l =
+    record {
+      message = blockMessage (s .id) (blockOffset s p) (chained (p .hash) b);
+      signature = lineSignature l;
+      key = s .key;
+    }
+
+unfoldable pub acceptBlock : Show → Past → List ℕ → List ℕ → Says
+acceptBlock s p b l =
+    ask (blockQuestion s p b l)
+    (granted (block (blockOffset s p) b) (announced s (after p b) (bodyWith s p b) (chunkSize l)))
+
+unfoldable pub judgeNextLine : Show → Past → List ℕ → List ℕ → Says
+judgeNextLine s p b l =
+    unlessBroken (lineFault (s .size) true (eqb (length b) (s .size)) (bodyWith s p b) l) (acceptBlock s p b l)
+
+-- "A good trailer gives *closed*"
+unfoldable pub judgeTrailer : ℕ → List ℕ → Says
+judgeTrailer total l = elim (isTrailer l) [ true ↦ stop (closed total) | false ↦ stop (refused 6) ]
+
+unfoldable pub judge : Ring → Context → List ℕ → Says
+judge ring head l = judgeHead ring l
+judge ring (firstLine s) l = judgeFirstLine s l
+judge ring (blockData s p n) l = go (dataEnd s p l)
+judge ring (dataEnd s p b) l = judgeDataEnd s p b l
+judge ring (nextLine s p b) l = judgeNextLine s p b l
+judge ring (trailer total) l = judgeTrailer total l
+
+-- ---- the plain reading
+
+-- "a no gives refusal 10"; "a told end gives refusal 11"
+unfoldable pub rules : Ring → Rules Context Question Release LastWord
+rules ring = record { whole = isWhole; judge = judge ring; denied = refused 10; unfinished = refused 11 }
+
+-- "It is given stream bytes, ring, answers and whether the end was told"
+unfoldable pub plainReading : Ring → List ℕ → List Bool → Bool → Log Question Release LastWord
+plainReading ring stream answers told = reading (rules ring) head stream answers told
