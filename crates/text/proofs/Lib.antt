@@ -1,0 +1,5 @@
+pub mod RunLaws
+pub mod SameLaws
+pub mod LineLaws
+pub mod SpanLaws
+pub mod ScanLaws
