@@ -1,0 +1,112 @@
+//! `compare PROGRAM_A PROGRAM_B --seed S --count N [--groups LIST] [--keep DIR]`: makes cases with
+//! the generator, runs both readers on each, and compares standard output, released bytes and exit
+//! status with each other and with what the generator expects. Cases that fail are kept in a folder
+//! each, under DIR or else under `compare-kept-S` in the folder for temporary files.
+
+mod judge;
+mod run;
+
+use judge::complaints;
+use run::{Outcome, Workshop};
+use std::fs;
+use std::path::{Path, PathBuf};
+use std::process::ExitCode;
+use streams::case::Case;
+use streams::sequence::{self, Group, Sequence};
+
+const USAGE: &str = "usage: compare PROGRAM_A PROGRAM_B --seed S --count N [--groups LIST] [--keep DIR]";
+
+fn main() -> ExitCode {
+    let words: Vec<String> = std::env::args().skip(1).collect();
+    match Settings::parse(&words).and_then(|settings| compare(&settings)) {
+        Ok(0) => ExitCode::SUCCESS,
+        Ok(_) => ExitCode::FAILURE,
+        Err(complaint) => {
+            eprintln!("compare: {complaint}");
+            ExitCode::from(2)
+        }
+    }
+}
+
+struct Settings {
+    programs: [PathBuf; 2],
+    seed: u64,
+    count: usize,
+    groups: Vec<Group>,
+    keep: PathBuf,
+}
+
+impl Settings {
+    fn parse(words: &[String]) -> Result<Self, String> {
+        let (mut programs, mut seed, mut count) = (Vec::new(), None, None);
+        let (mut groups, mut keep) = (sequence::all_groups(), None);
+        let mut words = words.iter();
+        while let Some(word) = words.next() {
+            let mut value = || words.next().ok_or_else(|| format!("{word} needs a value"));
+            match word.as_str() {
+                "--seed" => seed = Some(number(word, value()?)?),
+                "--count" => count = Some(number(word, value()?)? as usize),
+                "--groups" => groups = sequence::parse_groups(value()?)?,
+                "--keep" => keep = Some(PathBuf::from(value()?)),
+                other if other.starts_with("--") => return Err(format!("no option {other}\n{USAGE}")),
+                other => programs.push(program(other)?),
+            }
+        }
+        let programs: [PathBuf; 2] = programs.try_into().map_err(|_| format!("two programs are needed\n{USAGE}"))?;
+        let seed = seed.ok_or_else(|| format!("--seed is missing\n{USAGE}"))?;
+        Ok(Settings {
+            programs,
+            seed,
+            count: count.ok_or_else(|| format!("--count is missing\n{USAGE}"))?,
+            groups,
+            keep: keep.unwrap_or_else(|| std::env::temp_dir().join(format!("compare-kept-{seed}"))),
+        })
+    }
+}
+
+fn number(name: &str, text: &str) -> Result<u64, String> {
+    text.parse().map_err(|_| format!("{name} takes a number, not {text:?}"))
+}
+
+/// The programs run in the folder of the cases' files, so their paths must be whole.
+fn program(path: &str) -> Result<PathBuf, String> {
+    fs::canonicalize(path).map_err(|error| format!("{path}: {error}"))
+}
+
+/// Runs all cases and gives the number of those that failed.
+fn compare(settings: &Settings) -> Result<usize, String> {
+    println!("seed {}", settings.seed);
+    let workshop = Workshop::new()?;
+    let (mut passed, mut failed) = (0, 0);
+    for (number, case) in Sequence::new(settings.seed, &settings.groups).take(settings.count).enumerate() {
+        let outcomes = workshop.run(&case, &settings.programs)?;
+        let found = complaints(&case, &outcomes);
+        if found.is_empty() {
+            passed += 1;
+            continue;
+        }
+        failed += 1;
+        let folder = settings.keep.join(format!("{number:06}"));
+        keep(&case, &outcomes, &found, &folder).map_err(|error| format!("{}: {error}", folder.display()))?;
+        println!("case {number} ({}), kept in {}:", case.label, folder.display());
+        for line in &found {
+            println!("  {line}");
+        }
+    }
+    println!("{passed} passed, {failed} failed");
+    Ok(failed)
+}
+
+/// Keeps the files of a case, what came out and what was wrong with it.
+fn keep(case: &Case, outcomes: &[Outcome; 2], found: &[String], folder: &Path) -> std::io::Result<()> {
+    fs::create_dir_all(folder)?;
+    case.write(folder)?;
+    fs::write(folder.join("expected"), case.expected_text())?;
+    for (outcome, name) in outcomes.iter().zip(["a", "b"]) {
+        fs::write(folder.join(format!("output-{name}")), &outcome.output)?;
+        fs::write(folder.join(format!("errors-{name}")), &outcome.errors)?;
+        fs::write(folder.join(format!("body-{name}")), &outcome.body)?;
+    }
+    let pipe = if case.through_pipe { "the stream went through a pipe\n" } else { "" };
+    fs::write(folder.join("complaints"), format!("{}\n{pipe}{}\n", case.label, found.join("\n")))
+}

@@ -1,0 +1,113 @@
+//! Chunk lines: the size of a chunk and, on all but the first, the signature of the block before
+//! (paper 01, "Blocks", its first three points).
+
+use crate::base64;
+
+/// So many bytes without the line's end are refused.
+pub const LIMIT: usize = 128;
+/// What a chunk line and a chunk's data end with.
+pub const END: &[u8] = b"\r\n";
+/// The most bytes a body may have.
+pub const MOST_BODY: u64 = 4_294_967_296;
+
+/// What a chunk line says.
+#[derive(Debug, Clone, PartialEq, Eq)]
+pub struct ChunkLine {
+    pub size: u32,
+    pub signature: Option<[u8; 64]>,
+}
+
+/// Reads a line, given without its CR LF: 1 to 8 hex digits, then nothing or `;ouisig=` and the 88
+/// characters of a signature, which must be good base64. Nothing if the text is wrong.
+pub fn parse(line: &[u8]) -> Option<ChunkLine> {
+    let count = line.iter().take_while(|b| b.is_ascii_hexdigit()).count();
+    if !(1..=8).contains(&count) {
+        return None;
+    }
+    let (digits, rest) = line.split_at(count);
+    let size = digits.iter().fold(0u32, |number, &digit| number << 4 | hex(digit));
+    let signature = match rest {
+        b"" => None,
+        _ => Some(base64::decode_signature(rest.strip_prefix(b";ouisig=")?)?),
+    };
+    Some(ChunkLine { size, signature })
+}
+
+fn hex(digit: u8) -> u32 {
+    let value = match digit {
+        b'0'..=b'9' => digit - b'0',
+        b'a'..=b'f' => digit - b'a' + 10,
+        _ => digit - b'A' + 10,
+    };
+    u32::from(value)
+}
+
+/// Where in the body a line comes.
+#[derive(Debug, Clone, PartialEq, Eq)]
+pub struct Before {
+    /// The size every block but the last has.
+    pub block_size: u32,
+    /// The length of the block before, if there is one.
+    pub block: Option<u32>,
+    /// All the body's bytes so far, that block included.
+    pub total: u64,
+}
+
+/// Judges a whole line, CR LF included, at its place. An error is the number of the refusal, in
+/// the order 6, 8, 7, 9 (end of "The first line carries").
+pub fn judge(line: &[u8], before: &Before) -> Result<ChunkLine, u8> {
+    let text = line.strip_suffix(END).ok_or(6)?;
+    let parsed = parse(text).ok_or(6)?;
+    if parsed.signature.is_some() != before.block.is_some() {
+        return Err(8);
+    }
+    let after_short = before.block.is_some_and(|length| length < before.block_size);
+    if parsed.size > before.block_size || (parsed.size > 0 && after_short) {
+        return Err(7);
+    }
+    if before.total + u64::from(parsed.size) > MOST_BODY {
+        return Err(9);
+    }
+    Ok(parsed)
+}
+
+#[cfg(test)]
+mod tests {
+    use super::*;
+
+    fn size(line: &[u8]) -> Option<u32> {
+        parse(line).map(|parsed| parsed.size)
+    }
+
+    #[test]
+    fn sizes() {
+        assert_eq!(size(b"0"), Some(0));
+        assert_eq!(size(b"fFfFfFfF"), Some(u32::MAX));
+        assert_eq!(size(b"0001aBcD"), Some(0x1abcd));
+        for wrong in [&b""[..], b"g", b"5 ", b"5;", b"+5", b"0x5", b"5\r", b"5;ouisig=", b"5;x=y"] {
+            assert_eq!(size(wrong), None);
+        }
+    }
+
+    fn with_signature(size: &str) -> Vec<u8> {
+        format!("{size};ouisig={}==\r\n", "A".repeat(86)).into_bytes()
+    }
+
+    #[test]
+    fn the_order_of_refusals() {
+        let first = Before { block_size: 5, block: None, total: 0 };
+        let full = Before { block_size: 5, block: Some(5), total: 5 };
+        let short = Before { block_size: 5, block: Some(4), total: 4 };
+        let long = Before { block_size: 5, block: Some(5), total: MOST_BODY - 4 };
+        assert_eq!(judge(b"6 \r\n", &full), Err(6));
+        assert_eq!(judge(b"6\r\n", &full), Err(8));
+        assert_eq!(judge(&with_signature("6"), &first), Err(8));
+        assert_eq!(judge(&with_signature("6"), &full), Err(7));
+        assert_eq!(judge(&with_signature("1"), &short), Err(7));
+        assert_eq!(judge(&with_signature("6"), &long), Err(7));
+        assert_eq!(judge(&with_signature("5"), &long), Err(9));
+        assert!(judge(&with_signature("4"), &long).is_ok());
+        assert!(judge(&with_signature("0"), &short).is_ok());
+        assert!(judge(b"4\r\n", &first).is_ok());
+    }
+}

@@ -1,0 +1,320 @@
+//! The head: from the first byte of the stream to the first CR LF CR LF. It is judged once, whole.
+//! The rules are those of paper 01, "The head"; points of its list are cited by their first words.
+
+use crate::base64;
+use crate::ring::{self, Record};
+use crate::text;
+use std::ops::Range;
+
+/// So many bytes without the head's end are refused.
+pub const LIMIT: usize = 8192;
+/// What a head ends with.
+pub const END: &[u8] = b"\r\n\r\n";
+
+const MOST_FIELDS: usize = 64;
+const MOST_LISTED: usize = 32;
+const MOST_BLOCK: u64 = 65_536;
+
+/// What the rest of the reading needs from a good head.
+#[derive(Debug, Clone, PartialEq, Eq)]
+pub struct Head {
+    pub status: u16,
+    pub id: Vec<u8>,
+    pub block_size: u32,
+    pub signature: [u8; 64],
+    pub record: usize,
+    pub signing_string: Vec<u8>,
+    /// The listed fields: name in lower case, and where the value lies in the head.
+    pub signed: Vec<(Vec<u8>, Range<usize>)>,
+}
+
+impl Head {
+    /// Where the value of a listed field lies in the head. Names are compared without case.
+    pub fn signed_value(&self, name: &[u8]) -> Option<Range<usize>> {
+        let found = self.signed.iter().find(|(listed, _)| listed.eq_ignore_ascii_case(name))?;
+        Some(found.1.clone())
+    }
+}
+
+/// Judges a whole head, CR LF CR LF included. An error is the number of the refusal: first all
+/// that is 3, then 4 and 5 in the order of the paper's list, then 12 (opening words of the section).
+pub fn judge(bytes: &[u8], ring: &[Record]) -> Result<Head, u8> {
+    let text = HeadText::parse(bytes).ok_or(3)?;
+    match text.value(b"X-Ouinet-Version") {
+        None => return Err(4),
+        Some(b"4") => (),
+        Some(_) => return Err(5),
+    }
+    let rules = Rules::check(&text).ok_or(4)?;
+    let record = ring::look_up(ring, &rules.sig0.key, rules.injection.ts).ok_or(12)?;
+    if rules.bsigs.key != rules.sig0.key {
+        return Err(12);
+    }
+    Ok(Head {
+        status: text.status(),
+        id: rules.injection.id.to_vec(),
+        block_size: rules.bsigs.size,
+        signature: rules.sig0.signature,
+        record,
+        signing_string: signing_string(&text, rules.sig0.created, &rules.listed),
+        signed: rules
+            .listed
+            .iter()
+            .map(|field| (bytes[field.name.clone()].to_ascii_lowercase(), field.value.clone()))
+            .collect(),
+    })
+}
+
+/// A field's name and trimmed value, as places in the head.
+#[derive(Debug, Clone)]
+struct Field {
+    name: Range<usize>,
+    value: Range<usize>,
+}
+
+/// A head whose text is good: everything that is refused with 3 is behind it ("Status line").
+struct HeadText<'a> {
+    bytes: &'a [u8],
+    fields: Vec<Field>,
+}
+
+impl<'a> HeadText<'a> {
+    fn parse(bytes: &'a [u8]) -> Option<Self> {
+        let without_empty_line = &bytes[..bytes.len().checked_sub(2)?];
+        let lines = text::lines(without_empty_line);
+        let (status_line, field_lines) = lines.split_first()?;
+        if !is_status_line(&bytes[status_line.clone()]) {
+            return None;
+        }
+        let mut fields = Vec::with_capacity(field_lines.len());
+        for line in field_lines {
+            let parsed = text::field_line(&bytes[line.clone()])?;
+            fields.push(Field {
+                name: line.start + parsed.name.start..line.start + parsed.name.end,
+                value: line.start + parsed.value.start..line.start + parsed.value.end,
+            });
+        }
+        let head = HeadText { bytes, fields };
+        if head.fields.len() > MOST_FIELDS || head.has_doubled_name() {
+            return None;
+        }
+        Some(head)
+    }
+
+    fn has_doubled_name(&self) -> bool {
+        self.fields.iter().enumerate().any(|(number, field)| {
+            let name = self.name(field);
+            self.fields[..number].iter().any(|earlier| self.name(earlier).eq_ignore_ascii_case(name))
+        })
+    }
+
+    fn name(&self, field: &Field) -> &'a [u8] {
+        &self.bytes[field.name.clone()]
+    }
+
+    /// The field of that name, compared without case.
+    fn field(&self, name: &[u8]) -> Option<&Field> {
+        self.fields.iter().find(|field| self.name(field).eq_ignore_ascii_case(name))
+    }
+
+    /// The trimmed value of the field of that name.
+    fn value(&self, name: &[u8]) -> Option<&'a [u8]> {
+        self.field(name).map(|field| &self.bytes[field.value.clone()])
+    }
+
+    /// The three digits of the status line.
+    fn status_digits(&self) -> &'a [u8] {
+        &self.bytes[9..12]
+    }
+
+    fn status(&self) -> u16 {
+        self.status_digits().iter().fold(0, |number, &digit| number * 10 + u16::from(digit - b'0'))
+    }
+}
+
+/// `HTTP/1.1`, space, three digits, space, reason ("Status line").
+fn is_status_line(line: &[u8]) -> bool {
+    line.len() >= 13
+        && line.starts_with(b"HTTP/1.1 ")
+        && line[9..12].iter().all(u8::is_ascii_digit)
+        && line[12] == b' '
+        && line[13..].iter().all(|&b| text::is_value_byte(b))
+}
+
+/// What the head rules of refusal 4 find, after the version ("Status 200" and all points below it).
+struct Rules<'a> {
+    injection: Injection<'a>,
+    bsigs: BSigs,
+    sig0: Sig0<'a>,
+    /// The listed fields after the two pseudo names, in the list's order.
+    listed: Vec<Field>,
+}
+
+impl<'a> Rules<'a> {
+    fn check(text: &HeadText<'a>) -> Option<Self> {
+        let status_is_right = [200, 301, 302, 307].contains(&text.status());
+        let chunked = text.value(b"Transfer-Encoding")?.eq_ignore_ascii_case(b"chunked");
+        let has_length = text.value(b"Content-Length").is_some();
+        let has_uri = !text.value(b"X-Ouinet-URI")?.is_empty();
+        if !status_is_right || !chunked || has_length || !has_uri {
+            return None;
+        }
+        let injection = Injection::parse(text.value(b"X-Ouinet-Injection")?)?;
+        let bsigs = BSigs::parse(text.value(b"X-Ouinet-BSigs")?)?;
+        let sig0 = Sig0::parse(text.value(b"X-Ouinet-Sig0")?)?;
+        let listed = listed_fields(text, sig0.headers)?;
+        Some(Rules { injection, bsigs, sig0, listed })
+    }
+}
+
+/// `id=` and an id, `,ts=` and a second ("X-Ouinet-Injection"). No blanks are allowed here.
+struct Injection<'a> {
+    id: &'a [u8],
+    ts: u64,
+}
+
+impl<'a> Injection<'a> {
+    fn parse(value: &'a [u8]) -> Option<Self> {
+        let mut rest = Scan(value);
+        rest.expect(b"id=")?;
+        let id = rest.take_while(|b| b.is_ascii_alphanumeric() || b == b'-' || b == b'_');
+        if id.is_empty() || id.len() > 64 {
+            return None;
+        }
+        rest.expect(b",ts=")?;
+        let ts = text::decimal(rest.0, 12)?;
+        Some(Injection { id, ts })
+    }
+}
+
+/// `keyId`, `algorithm` and the size of a block ("X-Ouinet-BSigs").
+struct BSigs {
+    key: [u8; 32],
+    size: u32,
+}
+
+impl BSigs {
+    fn parse(value: &[u8]) -> Option<Self> {
+        let mut rest = Scan(value);
+        let key = key_and_algorithm(&mut rest)?;
+        rest.comma()?;
+        rest.expect(b"size=")?;
+        let size = text::decimal(rest.0, 5)?;
+        if !(1..=MOST_BLOCK).contains(&size) {
+            return None;
+        }
+        Some(BSigs { key, size: size as u32 })
+    }
+}
+
+/// `keyId`, `algorithm`, `created`, `headers` and `signature`, in that order ("X-Ouinet-Sig0").
+struct Sig0<'a> {
+    key: [u8; 32],
+    created: &'a [u8],
+    headers: &'a [u8],
+    signature: [u8; 64],
+}
+
+impl<'a> Sig0<'a> {
+    fn parse(value: &'a [u8]) -> Option<Self> {
+        let mut rest = Scan(value);
+        let key = key_and_algorithm(&mut rest)?;
+        rest.comma()?;
+        rest.expect(b"created=")?;
+        let created = rest.take_while(|b| b.is_ascii_digit());
+        text::decimal(created, 12)?;
+        rest.comma()?;
+        rest.expect(b"headers=")?;
+        let headers = rest.quoted()?;
+        rest.comma()?;
+        rest.expect(b"signature=")?;
+        let signature = base64::decode_signature(rest.quoted()?)?;
+        if !rest.0.is_empty() {
+            return None;
+        }
+        Some(Sig0 { key, created, headers, signature })
+    }
+}
+
+/// `keyId="ed25519=K",algorithm="hs2019"`, the same in both fields.
+fn key_and_algorithm(rest: &mut Scan) -> Option<[u8; 32]> {
+    rest.expect(b"keyId=")?;
+    let key = base64::decode_key(rest.quoted()?.strip_prefix(b"ed25519=")?)?;
+    rest.comma()?;
+    rest.expect(b"algorithm=\"hs2019\"")?;
+    Some(key)
+}
+
+/// The fields of the signed list after `(response-status)` and `(created)`, if the list keeps all
+/// its rules ("headers"). Names are compared without case, the two pseudo names as well.
+fn listed_fields(text: &HeadText, list: &[u8]) -> Option<Vec<Field>> {
+    let names: Vec<&[u8]> = list.split(|&b| b == b' ').collect();
+    if names.len() > MOST_LISTED || has_double(&names) {
+        return None;
+    }
+    let (pseudo, real) = names.split_at_checked(2)?;
+    let pseudo_is_right =
+        pseudo[0].eq_ignore_ascii_case(b"(response-status)") && pseudo[1].eq_ignore_ascii_case(b"(created)");
+    let holds = |name: &[u8]| real.iter().any(|listed| listed.eq_ignore_ascii_case(name));
+    let all_needed = holds(b"X-Ouinet-Version") && holds(b"X-Ouinet-URI") && holds(b"X-Ouinet-Injection");
+    if !pseudo_is_right || !all_needed || holds(b"X-Ouinet-Sig0") {
+        return None;
+    }
+    real.iter().map(|name| text.field(name).cloned()).collect()
+}
+
+fn has_double(names: &[&[u8]]) -> bool {
+    names
+        .iter()
+        .enumerate()
+        .any(|(number, name)| names[..number].iter().any(|earlier| earlier.eq_ignore_ascii_case(name)))
+}
+
+/// For each listed name: lower case, colon, space, value; a line feed between, none at the end
+/// ("Signing string", below the list).
+fn signing_string(text: &HeadText, created: &[u8], listed: &[Field]) -> Vec<u8> {
+    let mut out = b"(response-status): ".to_vec();
+    out.extend_from_slice(text.status_digits());
+    out.extend_from_slice(b"\n(created): ");
+    out.extend_from_slice(created);
+    for field in listed {
+        out.push(b'\n');
+        out.extend(text.name(field).to_ascii_lowercase());
+        out.extend_from_slice(b": ");
+        out.extend_from_slice(&text.bytes[field.value.clone()]);
+    }
+    out
+}
+
+/// What is left of a value that is being read from its front.
+struct Scan<'a>(&'a [u8]);
+
+impl<'a> Scan<'a> {
+    fn expect(&mut self, front: &[u8]) -> Option<()> {
+        self.0 = self.0.strip_prefix(front)?;
+        Some(())
+    }
+
+    fn take_while(&mut self, good: impl Fn(u8) -> bool) -> &'a [u8] {
+        let length = self.0.iter().take_while(|&&b| good(b)).count();
+        let (front, rest) = self.0.split_at(length);
+        self.0 = rest;
+        front
+    }
+
+    /// A comma between parameters, and the spaces and tabs that may follow it (end of
+    /// "X-Ouinet-Sig0").
+    fn comma(&mut self) -> Option<()> {
+        self.expect(b",")?;
+        self.0 = &self.0[text::leading_blanks(self.0)..];
+        Some(())
+    }
+
+    /// What stands between a quote here and the next one.
+    fn quoted(&mut self) -> Option<&'a [u8]> {
+        self.expect(b"\"")?;
+        let inner = self.take_while(|b| b != b'"');
+        self.expect(b"\"")?;
+        Some(inner)
+    }
+}

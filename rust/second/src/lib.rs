@@ -1,0 +1,30 @@
+//! A second reader for version 4 signature streams, written from paper 01 alone.
+//!
+//! It exists to be compared with the verified reader, so it shares nothing with it. The modules:
+//!
+//! * `sha512`, `base64`: the two codings the stream uses;
+//! * `text`: characters, trimming, field lines and numbers;
+//! * `ring`: the key ring;
+//! * `head`, `chunk`, `trailer`: one judge for each kind of text in a stream;
+//! * `message`: what a block's question asks about;
+//! * `event`: what a reading lists;
+//! * `plain`: the plain reading of a whole stream in memory;
+//! * `reader`: the same reading done piece by piece in bounded memory (the program uses this one);
+//! * `calls`: how a list of feeds, answers and ends is read, on top of `plain`;
+//! * `files`: the program's files.
+
+#![forbid(unsafe_code)]
+
+pub mod base64;
+pub mod calls;
+pub mod chunk;
+pub mod event;
+pub mod files;
+pub mod head;
+pub mod message;
+pub mod plain;
+pub mod reader;
+pub mod ring;
+pub mod sha512;
+pub mod text;
+pub mod trailer;

@@ -1,0 +1,294 @@
+//! The same reading as `plain`, done piece by piece in bounded memory (paper 01, "How a sitting
+//! goes"). It keeps at most one head, one block, one chunk line and one trailer.
+
+use crate::chunk::{self, Before, ChunkLine};
+use crate::event::{Event, Question};
+use crate::head::{self, Head};
+use crate::message;
+use crate::ring::Record;
+use crate::trailer;
+
+/// A call that came when it had no place: bytes or an end while a question is open or after the
+/// last event, an answer without a question.
+#[derive(Debug, Clone, Copy, PartialEq, Eq)]
+pub struct WrongTime;
+
+/// What comes next in the stream.
+enum Stage {
+    Head,
+    HeadAsked(Head),
+    Line,
+    Data {
+        left: u32,
+    },
+    DataEnd,
+    /// The size is that of the chunk that comes after the block in question.
+    BlockAsked {
+        hash: [u8; 64],
+        size: u32,
+    },
+    Trailer,
+    Over,
+}
+
+/// The body as far as it has come.
+struct Body {
+    id: Vec<u8>,
+    record: usize,
+    block_size: u32,
+    /// The number of the block that is gathered now or next.
+    number: u64,
+    /// The bytes of all blocks gathered.
+    total: u64,
+    /// The hash of the last released block.
+    hash: Option<[u8; 64]>,
+    /// The block that is gathered or, after its release, handed out.
+    block: Vec<u8>,
+    /// Whether the block is whole and not yet released.
+    waiting: bool,
+    /// Whether the block is released and handed out.
+    out: bool,
+}
+
+impl Body {
+    fn after(head: Head) -> Self {
+        Body {
+            id: head.id,
+            record: head.record,
+            block_size: head.block_size,
+            number: 0,
+            total: 0,
+            hash: None,
+            block: Vec::new(),
+            waiting: false,
+            out: false,
+        }
+    }
+
+    fn offset(&self) -> u64 {
+        self.number * u64::from(self.block_size)
+    }
+
+    fn before(&self) -> Before {
+        Before {
+            block_size: self.block_size,
+            block: self.waiting.then_some(self.block.len() as u32),
+            total: self.total,
+        }
+    }
+}
+
+pub struct Reader {
+    ring: Vec<Record>,
+    stage: Stage,
+    /// The bytes of the head, chunk line, data end or trailer that is under way.
+    gathered: Vec<u8>,
+    body: Option<Body>,
+}
+
+impl Reader {
+    pub fn new(ring: Vec<Record>) -> Self {
+        Reader { ring, stage: Stage::Head, gathered: Vec::new(), body: None }
+    }
+
+    /// The released block, from its release to the next feed or end that is in time.
+    pub fn block(&self) -> &[u8] {
+        match &self.body {
+            Some(body) if body.out => &body.block,
+            _ => &[],
+        }
+    }
+
+    /// Takes bytes up to the first event, or all of them, and says how many.
+    pub fn feed(&mut self, piece: &[u8]) -> Result<(usize, Option<Event>), WrongTime> {
+        if self.is_asking() || self.is_over() {
+            return Err(WrongTime);
+        }
+        self.drop_released_block();
+        let mut taken = 0;
+        while taken < piece.len() {
+            let (more, event) = self.step(&piece[taken..]);
+            taken += more;
+            if event.is_some() {
+                return Ok((taken, event));
+            }
+        }
+        Ok((taken, None))
+    }
+
+    /// Takes the answer to the open question.
+    pub fn answer(&mut self, yes: bool) -> Result<Event, WrongTime> {
+        if !self.is_asking() {
+            return Err(WrongTime);
+        }
+        if !yes {
+            return Ok(self.refuse(10));
+        }
+        match std::mem::replace(&mut self.stage, Stage::Over) {
+            Stage::HeadAsked(head) => {
+                let status = head.status;
+                self.body = Some(Body::after(head));
+                self.stage = Stage::Line;
+                Ok(Event::HeadAccepted { status })
+            }
+            Stage::BlockAsked { hash, size } => {
+                let body = self.body.as_mut().ok_or(WrongTime)?;
+                let event = Event::Block { offset: body.offset(), length: body.block.len() as u32 };
+                body.hash = Some(hash);
+                body.number += 1;
+                body.waiting = false;
+                body.out = true;
+                self.stage = after_line(size);
+                Ok(event)
+            }
+            _ => Err(WrongTime),
+        }
+    }
+
+    /// Is told that no bytes follow.
+    pub fn end(&mut self) -> Result<Event, WrongTime> {
+        if self.is_asking() || self.is_over() {
+            return Err(WrongTime);
+        }
+        Ok(self.refuse(11))
+    }
+
+    fn is_asking(&self) -> bool {
+        matches!(self.stage, Stage::HeadAsked(_) | Stage::BlockAsked { .. })
+    }
+
+    fn is_over(&self) -> bool {
+        matches!(self.stage, Stage::Over)
+    }
+
+    fn drop_released_block(&mut self) {
+        if let Some(body) = self.body.as_mut().filter(|body| body.out) {
+            body.block.clear();
+            body.out = false;
+        }
+    }
+
+    fn refuse(&mut self, number: u8) -> Event {
+        self.stage = Stage::Over;
+        self.body = None;
+        self.gathered = Vec::new();
+        Event::Refused { number }
+    }
+
+    /// Takes at least one byte of a piece that has some, within the section under way.
+    fn step(&mut self, piece: &[u8]) -> (usize, Option<Event>) {
+        if let Stage::Data { left } = self.stage {
+            let count = (left as usize).min(piece.len());
+            self.gather_data(&piece[..count], left);
+            return (count, None);
+        }
+        self.gathered.push(piece[0]);
+        let event = match self.stage {
+            Stage::Head => self.head_byte(),
+            Stage::Line => self.line_byte(),
+            Stage::DataEnd => self.data_end_byte(),
+            Stage::Trailer => self.trailer_byte(),
+            Stage::Data { .. } | Stage::HeadAsked(_) | Stage::BlockAsked { .. } | Stage::Over => None,
+        };
+        (1, event)
+    }
+
+    fn gather_data(&mut self, bytes: &[u8], left: u32) {
+        let Some(body) = self.body.as_mut() else { return };
+        body.block.extend_from_slice(bytes);
+        let left = left - bytes.len() as u32;
+        if left > 0 {
+            self.stage = Stage::Data { left };
+        } else {
+            body.waiting = true;
+            body.total += body.block.len() as u64;
+            self.stage = Stage::DataEnd;
+        }
+    }
+
+    fn head_byte(&mut self) -> Option<Event> {
+        if self.gathered.ends_with(head::END) {
+            let bytes = std::mem::take(&mut self.gathered);
+            return Some(match head::judge(&bytes, &self.ring) {
+                Ok(head) => {
+                    let question = Question {
+                        message: head.signing_string.clone(),
+                        signature: head.signature,
+                        record: head.record,
+                    };
+                    self.stage = Stage::HeadAsked(head);
+                    Event::Question(question)
+                }
+                Err(number) => self.refuse(number),
+            });
+        }
+        (self.gathered.len() == head::LIMIT).then(|| self.refuse(3))
+    }
+
+    fn line_byte(&mut self) -> Option<Event> {
+        if self.gathered.ends_with(chunk::END) {
+            let bytes = std::mem::take(&mut self.gathered);
+            let before = self.body.as_ref()?.before();
+            return match chunk::judge(&bytes, &before) {
+                Ok(line) => self.line(line),
+                Err(number) => Some(self.refuse(number)),
+            };
+        }
+        (self.gathered.len() == chunk::LIMIT).then(|| self.refuse(6))
+    }
+
+    /// A good line: a question if it carries a signature, else the next section.
+    fn line(&mut self, line: ChunkLine) -> Option<Event> {
+        let body = self.body.as_mut()?;
+        let Some(signature) = line.signature else {
+            self.stage = after_line(line.size);
+            return None;
+        };
+        let hash = message::chain(body.hash.as_ref(), &body.block);
+        let question = Question {
+            message: message::block_message(&body.id, body.offset(), &hash),
+            signature,
+            record: body.record,
+        };
+        self.stage = Stage::BlockAsked { hash, size: line.size };
+        Some(Event::Question(question))
+    }
+
+    fn data_end_byte(&mut self) -> Option<Event> {
+        if self.gathered.len() < 2 {
+            return None;
+        }
+        let good = self.gathered == chunk::END;
+        self.gathered.clear();
+        if good {
+            self.stage = Stage::Line;
+            None
+        } else {
+            Some(self.refuse(6))
+        }
+    }
+
+    fn trailer_byte(&mut self) -> Option<Event> {
+        if trailer::is_whole(&self.gathered) {
+            let judgement = trailer::judge(&self.gathered);
+            let total = self.body.as_ref()?.total;
+            return Some(match judgement {
+                Ok(()) => {
+                    self.stage = Stage::Over;
+                    Event::Closed { total }
+                }
+                Err(number) => self.refuse(number),
+            });
+        }
+        (self.gathered.len() == trailer::LIMIT).then(|| self.refuse(6))
+    }
+}
+
+/// What comes after a line that announced this size.
+fn after_line(size: u32) -> Stage {
+    if size == 0 {
+        Stage::Trailer
+    } else {
+        Stage::Data { left: size }
+    }
+}

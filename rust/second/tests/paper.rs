@@ -1,0 +1,296 @@
+//! The example of document 000 and the marked cases P1 to P12 of paper 01, held against the plain
+//! reading, the piecewise reader and the list of calls. Signatures here are stand-ins, since the
+//! readings ask about them and never check them.
+
+use second::base64;
+use second::calls::{Calls, Holds, Word};
+use second::chunk::{self, Before};
+use second::event::Event;
+use second::head;
+use second::message;
+use second::plain;
+use second::reader::Reader;
+use second::ring::Record;
+use second::text;
+
+const NINE_LINES: [&str; 9] = [
+    "question 219",
+    "head 200",
+    "question 83",
+    "block 0 5",
+    "question 83",
+    "block 5 5",
+    "question 84",
+    "block 10 2",
+    "closed 12",
+];
+
+const SIGNING_STRING: &str = "(response-status): 200\n\
+    (created): 1584748800\n\
+    x-ouinet-version: 4\n\
+    x-ouinet-uri: https://example.com/hello\n\
+    x-ouinet-injection: id=qwertyuiop-12345,ts=1584748800\n\
+    date: Sat, 21 Mar 2020 00:00:00 GMT\n\
+    content-type: text/plain";
+
+fn key_text() -> String {
+    format!("{}=", "A".repeat(43))
+}
+
+fn signature_text() -> String {
+    format!("{}==", "A".repeat(86))
+}
+
+fn ring() -> Vec<Record> {
+    vec![Record { key: [0; 32], first: 0, last: 999_999_999_999 }]
+}
+
+/// The head of the example with these values for injection and block size.
+fn head_with(injection: &str, size: &str) -> Vec<u8> {
+    format!(
+        "HTTP/1.1 200 OK\r\n\
+         X-Ouinet-Version: 4\r\n\
+         X-Ouinet-URI: https://example.com/hello\r\n\
+         X-Ouinet-Injection: {injection}\r\n\
+         Date: Sat, 21 Mar 2020 00:00:00 GMT\r\n\
+         Content-Type: text/plain\r\n\
+         X-Ouinet-Sig0: keyId=\"ed25519={key}\",algorithm=\"hs2019\",created=1584748800, \
+         headers=\"(response-status) (created) x-ouinet-version x-ouinet-uri x-ouinet-injection date content-type\",\
+         signature=\"{signature}\"\r\n\
+         X-Ouinet-BSigs: keyId=\"ed25519={key}\",algorithm=\"hs2019\",size={size}\r\n\
+         Transfer-Encoding: chunked\r\n\
+         Trailer: Digest, X-Ouinet-Data-Size, X-Ouinet-Sig1\r\n\
+         \r\n",
+        key = key_text(),
+        signature = signature_text(),
+    )
+    .into_bytes()
+}
+
+fn head() -> Vec<u8> {
+    head_with("id=qwertyuiop-12345,ts=1584748800", "5")
+}
+
+fn example() -> Vec<u8> {
+    let mut stream = head();
+    let signature = signature_text();
+    stream.extend(
+        format!(
+            "5\r\nHello\r\n5;ouisig={signature}\r\n worl\r\n2;ouisig={signature}\r\nd!\r\n0;ouisig={signature}\r\n\
+             Digest: SHA-256=wFNeS+K3n/2TKRMFQ2v4iTFOSj+uwF7P/Lt98xrZ5Ro=\r\n\
+             X-Ouinet-Data-Size: 12\r\n\r\n"
+        )
+        .bytes(),
+    );
+    stream
+}
+
+fn plain_lines(stream: &[u8], answers: &[bool], told: bool) -> Vec<String> {
+    let reading = plain::read(stream, &ring(), answers, told);
+    reading.events.iter().map(|placed| placed.event.to_string()).collect()
+}
+
+/// The lines of the piecewise reader, all yes, in pieces of this length, and the released bytes.
+fn reader_lines(stream: &[u8], step: usize) -> (Vec<String>, Vec<u8>) {
+    let mut reader = Reader::new(ring());
+    let (mut lines, mut body) = (Vec::new(), Vec::new());
+    for piece in stream.chunks(step) {
+        let mut rest = piece;
+        while !rest.is_empty() {
+            let (taken, event) = reader.feed(rest).expect("in time");
+            rest = &rest[taken..];
+            let Some(event) = event else { continue };
+            lines.push(event.to_string());
+            if event.is_final() {
+                return (lines, body);
+            }
+            let answer = reader.answer(true).expect("a question is open");
+            body.extend_from_slice(reader.block());
+            lines.push(answer.to_string());
+        }
+    }
+    lines.push(reader.end().expect("in time").to_string());
+    (lines, body)
+}
+
+#[test]
+fn the_example_gives_the_nine_lines() {
+    assert_eq!(plain_lines(&example(), &[true; 4], true), NINE_LINES);
+    for step in [1, 2, 3, 7, 100, 65_536] {
+        let (lines, body) = reader_lines(&example(), step);
+        assert_eq!(lines, NINE_LINES, "pieces of {step}");
+        assert_eq!(body, b"Hello world!");
+    }
+}
+
+#[test]
+fn the_example_cut_short_or_refused() {
+    let stream = example();
+    let full = plain::read(&stream, &ring(), &[true; 4], true);
+    for length in 0..stream.len() {
+        let mut expected: Vec<String> =
+            full.events.iter().filter(|placed| placed.place <= length).map(|placed| placed.event.to_string()).collect();
+        assert_eq!(plain_lines(&stream[..length], &[true; 4], false), expected);
+        expected.push("refused 11".to_string());
+        assert_eq!(plain_lines(&stream[..length], &[true; 4], true), expected);
+        if length > 0 {
+            assert_eq!(reader_lines(&stream[..length], 5).0, expected);
+        }
+    }
+    assert_eq!(plain_lines(&stream, &[true, false], true), ["question 219", "head 200", "question 83", "refused 10"]);
+    assert_eq!(plain_lines(&stream, &[true], true), ["question 219", "head 200", "question 83"]);
+    assert_eq!(plain_lines(b"", &[], false), Vec::<String>::new());
+    assert_eq!(plain_lines(b"", &[], true), ["refused 11"]);
+}
+
+fn first_line() -> Before {
+    Before { block_size: 65_536, block: None, total: 0 }
+}
+
+fn size_of(line: &str) -> Result<u32, u8> {
+    chunk::judge(format!("{line}\r\n").as_bytes(), &first_line()).map(|line| line.size)
+}
+
+#[test]
+fn p1_to_p4_sizes() {
+    assert_eq!(size_of("5"), Ok(5));
+    assert_eq!(size_of("00000005"), Ok(5));
+    assert_eq!(size_of("000000005"), Err(6));
+    assert_eq!(size_of("a"), Ok(10));
+    assert_eq!(size_of("A"), Ok(10));
+    assert_eq!(size_of(" 5"), Err(6));
+}
+
+#[test]
+fn p5_an_empty_body() {
+    let mut stream = head();
+    stream.extend(b"0\r\n");
+    assert_eq!(plain_lines(&stream, &[true], false), ["question 219", "head 200"]);
+    stream.extend(b"\r\n");
+    assert_eq!(plain_lines(&stream, &[true], false), ["question 219", "head 200", "closed 0"]);
+    assert_eq!(reader_lines(&stream, 1).0, ["question 219", "head 200", "closed 0"]);
+}
+
+#[test]
+fn p6_the_length_of_a_signature() {
+    let before = Before { block_size: 5, block: Some(5), total: 5 };
+    let judge = |text: &str| chunk::judge(format!("5;ouisig={text}\r\n").as_bytes(), &before);
+    assert!(judge(&signature_text()).is_ok());
+    assert_eq!(judge(&signature_text()[1..]), Err(6));
+    assert_eq!(judge(&signature_text()[..87]), Err(6));
+}
+
+#[test]
+fn p7_base64() {
+    assert_eq!(base64::decode(b"NhX4"), Some(vec![54, 21, 248]));
+}
+
+fn judged(injection: &str, size: &str) -> Result<(), u8> {
+    head::judge(&head_with(injection, size), &ring()).map(|_| ())
+}
+
+#[test]
+fn p8_injections() {
+    assert_eq!(judged("id=a,ts=0", "5"), Ok(()));
+    assert_eq!(judged("id=,ts=1", "5"), Err(4));
+    assert_eq!(judged("id=a,ts=01", "5"), Err(4));
+}
+
+#[test]
+fn p9_block_sizes() {
+    let injection = "id=a,ts=0";
+    assert_eq!(judged(injection, "65536"), Ok(()));
+    assert_eq!(judged(injection, "0"), Err(4));
+    assert_eq!(judged(injection, "65537"), Err(4));
+}
+
+#[test]
+fn p10_the_signing_string() {
+    let head = head::judge(&head(), &ring()).expect("a good head");
+    assert_eq!(head.signing_string, SIGNING_STRING.as_bytes());
+    assert_eq!(head.signing_string.len(), 219);
+    assert_eq!(head.record, 0);
+}
+
+#[test]
+fn p11_the_lengths_of_block_messages() {
+    let lengths = [0, 5, 10].map(|offset| message::block_message(b"qwertyuiop-12345", offset, &[0; 64]).len());
+    assert_eq!(lengths, [83, 83, 84]);
+}
+
+#[test]
+fn p12_a_value_between_spaces() {
+    let line = b"Content-Type:  text/plain ";
+    let parsed = text::field_line(line).expect("a field line");
+    assert_eq!(&line[parsed.value.clone()], b"text/plain");
+    assert_eq!(parsed.value.len(), 10);
+}
+
+#[test]
+fn a_list_of_calls() {
+    let mut calls = Calls::new();
+    let stream = example();
+    let enough = Holds::ENOUGH;
+    let short = Holds { block: 65_535, ..enough };
+    let refused = |number| Word::Refused { number };
+
+    assert_eq!(calls.answer(enough, true).word, refused(1));
+    assert_eq!(calls.feed(short, &ring(), &stream).word, refused(2));
+    let seventeen: Vec<Record> = ring().into_iter().cycle().take(17).collect();
+    assert_eq!(calls.feed(enough, &seventeen, &stream).word, refused(2));
+    let empty = calls.feed(enough, &ring(), b"");
+    assert_eq!((empty.word, empty.taken), (Word::More, 0));
+
+    let head_length = head().len();
+    let asked = calls.feed(enough, &ring(), &stream);
+    assert_eq!(asked.taken, head_length);
+    let Word::Question(question) = asked.word else { panic!("no question") };
+    assert_eq!(question.message, SIGNING_STRING.as_bytes());
+    assert_eq!(question.record, 0);
+    assert_eq!(calls.value(8192, b"date"), b"");
+    assert_eq!(calls.feed(enough, &ring(), b"").word, refused(1));
+    assert_eq!(calls.end(enough).word, refused(1));
+    assert_eq!(calls.answer(short, true).word, refused(2));
+
+    assert_eq!(calls.answer(enough, true).word, Word::HeadAccepted { status: 200 });
+    assert_eq!(calls.value(8192, b"dATe"), b"Sat, 21 Mar 2020 00:00:00 GMT");
+    assert_eq!(calls.value(8191, b"date"), b"");
+    assert_eq!(calls.value(8192, b"Trailer"), b"");
+    assert_eq!(calls.value(8192, b"(created)"), b"");
+
+    // The ring is not read again: an empty one changes nothing now.
+    let asked = calls.feed(enough, &[], &stream[head_length..]);
+    assert!(matches!(asked.word, Word::Question(_)));
+    assert_eq!(asked.taken, 3 + 5 + 2 + 99);
+    assert_eq!(calls.block(65_536), b"");
+    assert_eq!(calls.answer(enough, true).word, Word::Block { offset: 0, length: 5 });
+    assert_eq!(calls.block(65_536), b"Hello");
+    assert_eq!(calls.block(65_535), b"");
+    assert_eq!(calls.answer(enough, false).word, refused(1));
+    assert_eq!(calls.feed(short, &[], b"x").word, refused(2));
+    assert_eq!(calls.block(65_536), b"Hello");
+    assert_eq!(calls.feed(enough, &[], b"").word, Word::More);
+    assert_eq!(calls.block(65_536), b"");
+
+    // Other bytes than the ones not taken: the reading is over the bytes taken.
+    let wrong = calls.feed(enough, &[], b"12345X\nmore");
+    assert_eq!((wrong.word, wrong.taken), (refused(6), 7));
+    assert_eq!(calls.value(8192, b"date"), b"Sat, 21 Mar 2020 00:00:00 GMT");
+    assert_eq!(calls.feed(enough, &[], b"").word, refused(1));
+    assert_eq!(calls.feed(short, &[], b"").word, refused(2));
+    assert_eq!(calls.end(enough).word, refused(1));
+    assert_eq!(calls.bytes().len(), head_length + 109 + 7);
+}
+
+#[test]
+fn places_of_the_example() {
+    let reading = plain::read(&example(), &ring(), &[true; 4], true);
+    let head_length = head().len();
+    let places: Vec<usize> = reading.events.iter().map(|placed| placed.place).collect();
+    let first = head_length + 3 + 7 + 99;
+    let second = first + 7 + 99;
+    let third = second + 4 + 99;
+    let whole = example().len();
+    assert_eq!(places, [head_length, head_length, first, first, second, second, third, third, whole]);
+    assert_eq!(reading.events[8].event, Event::Closed { total: 12 });
+}

@@ -1,0 +1,165 @@
+//! A case: the files that a reader is given, and what it must say as far as that is known.
+
+use crate::answers;
+use crate::cuts;
+use crate::plan::{ring_text, Built, RingRecord};
+use crate::rng::Rng;
+use std::fs;
+use std::io;
+use std::path::Path;
+
+/// The names of a case's files.
+pub const STREAM: &str = "stream";
+pub const RING: &str = "ring";
+pub const ANSWERS: &str = "answers";
+pub const CUTS: &str = "cuts";
+
+/// What must come out.
+pub enum Expected {
+    /// These lines and no others, and these released bytes.
+    Exactly {
+        lines: Vec<String>,
+        body: Vec<u8>,
+    },
+    /// Not known, but what is released must be a beginning of this: the answers were verified.
+    BeginningOf(Vec<u8>),
+    /// A malformed or missing file: status 2, no line, and one line on standard error that names
+    /// the file and, where it is given here, the line.
+    Malformed {
+        file: &'static str,
+        line: Option<usize>,
+    },
+    Unknown,
+}
+
+impl Expected {
+    /// A word for the index: the last line, `malformed` or `-`.
+    pub fn summary(&self) -> String {
+        match self {
+            Expected::Exactly { lines, .. } => lines.last().cloned().unwrap_or_else(|| "nothing".to_string()),
+            Expected::Malformed { file, .. } => format!("malformed {file}"),
+            Expected::BeginningOf(_) | Expected::Unknown => "-".to_string(),
+        }
+    }
+}
+
+pub struct Case {
+    pub label: String,
+    pub stream: Vec<u8>,
+    pub ring: Vec<u8>,
+    pub answers: Vec<u8>,
+    pub cuts: Option<Vec<u8>>,
+    /// A file that is named to the reader but not there.
+    pub missing: Option<&'static str>,
+    /// Whether the stream goes through a pipe rather than a file.
+    pub through_pipe: bool,
+    pub expected: Expected,
+}
+
+/// How the questions of a case are answered.
+#[derive(Clone, Copy)]
+pub enum Answering {
+    AllYes,
+    /// So many yes, then a no.
+    NoAfter(usize),
+    /// So many yes, then nothing.
+    OutAfter(usize),
+    Verified,
+}
+
+/// How many bytes these lines say were released.
+fn released(lines: &[String]) -> usize {
+    let length = |line: &String| line.strip_prefix("block ")?.split(' ').nth(1)?.parse::<usize>().ok();
+    lines.iter().filter_map(length).sum()
+}
+
+impl Case {
+    /// A case whose all-yes lines are known. Whatever is asked is then signed as it should be, so
+    /// verified answers must all be yes; this holds the second reader's messages against libsodium.
+    pub fn known(
+        label: impl Into<String>,
+        stream: Vec<u8>,
+        ring: &[RingRecord],
+        all_yes: &[String],
+        body: &[u8],
+        answering: Answering,
+        rng: &mut Rng,
+    ) -> Self {
+        let questions = all_yes.iter().filter(|line| line.starts_with("question")).count();
+        let list = match answering {
+            Answering::AllYes => vec![true; questions + rng.below(3)],
+            Answering::NoAfter(count) => [vec![true; count], vec![false]].concat(),
+            Answering::OutAfter(count) => vec![true; count],
+            Answering::Verified => answers::verified(&stream, ring),
+        };
+        if matches!(answering, Answering::Verified) {
+            let all_good = list.len() == questions && list.iter().all(|&yes| yes);
+            assert!(all_good, "an honest signature is not verified: the second reader asks about a wrong message");
+        }
+        let lines = answers::lines_with(all_yes, &list);
+        let body = body[..released(&lines)].to_vec();
+        let text = answers::text(&list, rng);
+        Case {
+            label: label.into(),
+            cuts: cuts::any(&stream, rng),
+            through_pipe: rng.one_in(16),
+            stream,
+            ring: ring_text(ring),
+            answers: text,
+            missing: None,
+            expected: Expected::Exactly { lines, body },
+        }
+    }
+
+    /// A whole stream as it was built.
+    pub fn whole(label: impl Into<String>, built: &Built, answering: Answering, rng: &mut Rng) -> Self {
+        Case::known(label, built.bytes(), &built.ring, &built.lines(), &built.body, answering, rng)
+    }
+
+    /// A case of which only this is known: with verified answers, what is released is a beginning
+    /// of the body that was signed.
+    pub fn damaged(label: impl Into<String>, stream: Vec<u8>, built: &Built, verified: bool, rng: &mut Rng) -> Self {
+        let list = if verified { answers::verified(&stream, &built.ring) } else { vec![true; built.parts.len() + 20] };
+        let expected = if verified { Expected::BeginningOf(built.body.clone()) } else { Expected::Unknown };
+        Case {
+            label: label.into(),
+            cuts: cuts::any(&stream, rng),
+            through_pipe: rng.one_in(16),
+            stream,
+            ring: ring_text(&built.ring),
+            answers: answers::text(&list, rng),
+            missing: None,
+            expected,
+        }
+    }
+
+    /// Writes the files of the case into a folder, and what is expected beside them.
+    pub fn write(&self, folder: &Path) -> io::Result<()> {
+        for (name, bytes) in self.files() {
+            if self.missing != Some(name) {
+                fs::write(folder.join(name), bytes)?;
+            }
+        }
+        Ok(())
+    }
+
+    /// The files with their names.
+    pub fn files(&self) -> Vec<(&'static str, &[u8])> {
+        let mut files = vec![(STREAM, &self.stream[..]), (RING, &self.ring), (ANSWERS, &self.answers)];
+        if let Some(cuts) = &self.cuts {
+            files.push((CUTS, cuts));
+        }
+        files
+    }
+
+    /// What is expected, as a text for a reader of the corpus.
+    pub fn expected_text(&self) -> String {
+        match &self.expected {
+            Expected::Exactly { lines, .. } => lines.iter().map(|line| format!("{line}\n")).collect(),
+            Expected::Malformed { file, line: Some(line) } => format!("(status 2, {file}, line {line})\n"),
+            Expected::Malformed { file, line: None } => format!("(status 2, {file})\n"),
+            Expected::BeginningOf(_) => "(released bytes are a beginning of the signed body)\n".to_string(),
+            Expected::Unknown => "(not known)\n".to_string(),
+        }
+    }
+}

@@ -1,0 +1,36 @@
+//! A seeded generator of version 4 signature streams with real Ed25519 signatures, honest ones and
+//! broken ones, together with what a reader must say about them. It signs and hashes through
+//! libsodium and builds all texts itself, so that its expectations do not come from a reader.
+//!
+//! * `rng`: the seeded numbers;
+//! * `sodium`: Ed25519 and SHA-512;
+//! * `base64`: encoding;
+//! * `head`: a head as an editable list of lines;
+//! * `plan`: what an honest stream is made from, and how it is built;
+//! * `random`: plans drawn at random;
+//! * `answers`, `cuts`: the other two files of a case;
+//! * `case`: a case and what is expected of it;
+//! * `rules`: a table of the rules of paper 01, each broken once;
+//! * `bounds`: both sides of each length limit;
+//! * `damage`: bytes changed, deleted, inserted, cut off;
+//! * `inputs`: malformed files;
+//! * `sequence`: the cases of a seed in order;
+//! * `example`: the example of document 000;
+//! * `long`: streams that are written on the fly.
+
+pub mod answers;
+pub mod base64;
+pub mod bounds;
+pub mod case;
+pub mod cuts;
+pub mod damage;
+pub mod example;
+pub mod head;
+pub mod inputs;
+pub mod long;
+pub mod plan;
+pub mod random;
+pub mod rng;
+pub mod rules;
+pub mod sequence;
+pub mod sodium;

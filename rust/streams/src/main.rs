@@ -1,0 +1,183 @@
+//! `streams`: writes the example, a corpus of cases, or a long stream. See `usage` below.
+
+use std::fs::{self, File};
+use std::io::{self, BufWriter, Write};
+use std::path::Path;
+use std::process::ExitCode;
+use streams::case::{Answering, Case};
+use streams::rng::Rng;
+use streams::sequence::{self, Group, Sequence};
+use streams::{example, long};
+
+const USAGE: &str = "\
+usage:
+  streams example DIR
+      the example of document 000: stream, ring, answers, expected
+  streams corpus --seed S --count N [--groups LIST] DIR
+      N cases of the seed, a folder each, and an index with what is expected
+  streams long BYTES [--block-size N]
+      a stream with a body of so many bytes, to standard output
+  streams long-files BYTES [--block-size N] DIR
+      the ring and the answers for such a stream";
+
+fn main() -> ExitCode {
+    let words: Vec<String> = std::env::args().skip(1).collect();
+    match run(&words) {
+        Ok(()) => ExitCode::SUCCESS,
+        Err(complaint) => {
+            eprintln!("streams: {complaint}");
+            ExitCode::from(2)
+        }
+    }
+}
+
+fn run(words: &[String]) -> Result<(), String> {
+    let (command, rest) = words.split_first().ok_or(USAGE)?;
+    let mut options = Options::parse(rest)?;
+    match command.as_str() {
+        "example" => {
+            let folder = options.plain("DIR")?;
+            options.done()?;
+            write_example(Path::new(&folder))
+        }
+        "corpus" => {
+            let seed = options.number("--seed")?.ok_or("corpus needs --seed S")?;
+            let count = options.number("--count")?.ok_or("corpus needs --count N")?;
+            let groups = match options.named("--groups") {
+                Some(list) => sequence::parse_groups(&list)?,
+                None => sequence::all_groups(),
+            };
+            let folder = options.plain("DIR")?;
+            options.done()?;
+            write_corpus(seed, count, &groups, Path::new(&folder))
+        }
+        "long" => {
+            let block_size = options.block_size()?;
+            let length = parse_number("BYTES", &options.plain("BYTES")?)?;
+            options.done()?;
+            write_long(length, block_size)
+        }
+        "long-files" => {
+            let block_size = options.block_size()?;
+            let length = parse_number("BYTES", &options.plain("BYTES")?)?;
+            let folder = options.plain("DIR")?;
+            options.done()?;
+            write_long_files(length, block_size, Path::new(&folder))
+        }
+        other => Err(format!("no command {other:?}\n{USAGE}")),
+    }
+}
+
+/// The words after the command: named ones with their values, and plain ones in order.
+struct Options {
+    named: Vec<(String, String)>,
+    plain: Vec<String>,
+}
+
+impl Options {
+    fn parse(words: &[String]) -> Result<Self, String> {
+        let mut options = Options { named: Vec::new(), plain: Vec::new() };
+        let mut words = words.iter();
+        while let Some(word) = words.next() {
+            if word.starts_with("--") {
+                let value = words.next().ok_or_else(|| format!("{word} needs a value"))?;
+                options.named.push((word.clone(), value.clone()));
+            } else {
+                options.plain.push(word.clone());
+            }
+        }
+        Ok(options)
+    }
+
+    fn named(&mut self, name: &str) -> Option<String> {
+        let place = self.named.iter().position(|(word, _)| word == name)?;
+        Some(self.named.remove(place).1)
+    }
+
+    fn number(&mut self, name: &str) -> Result<Option<u64>, String> {
+        self.named(name).map(|value| parse_number(name, &value)).transpose()
+    }
+
+    fn block_size(&mut self) -> Result<usize, String> {
+        match self.number("--block-size")? {
+            None => Ok(65_536),
+            Some(size @ 1..=65_536) => Ok(size as usize),
+            Some(size) => Err(format!("a block size is from 1 to 65536, not {size}")),
+        }
+    }
+
+    fn plain(&mut self, what: &str) -> Result<String, String> {
+        if self.plain.is_empty() {
+            return Err(format!("{what} is missing\n{USAGE}"));
+        }
+        Ok(self.plain.remove(0))
+    }
+
+    /// Nothing may be left over.
+    fn done(&self) -> Result<(), String> {
+        match (self.named.first(), self.plain.first()) {
+            (Some((name, _)), _) => Err(format!("no option {name} here\n{USAGE}")),
+            (_, Some(word)) => Err(format!("{word:?} is one word too many\n{USAGE}")),
+            _ => Ok(()),
+        }
+    }
+}
+
+fn parse_number(name: &str, text: &str) -> Result<u64, String> {
+    text.parse().map_err(|_| format!("{name} is a number, not {text:?}"))
+}
+
+fn failed(path: &Path, error: io::Error) -> String {
+    format!("{}: {error}", path.display())
+}
+
+/// Writes a case and its expectation into a folder.
+fn write_case(case: &Case, folder: &Path) -> Result<(), String> {
+    fs::create_dir_all(folder).map_err(|error| failed(folder, error))?;
+    case.write(folder).map_err(|error| failed(folder, error))?;
+    let expected = folder.join("expected");
+    fs::write(&expected, case.expected_text()).map_err(|error| failed(&expected, error))
+}
+
+fn write_example(folder: &Path) -> Result<(), String> {
+    let mut case = Case::whole("the example", &example::plan().build(), Answering::AllYes, &mut Rng::new(0));
+    case.cuts = None;
+    case.answers = b"yyyy\n".to_vec();
+    write_case(&case, folder)
+}
+
+fn write_corpus(seed: u64, count: u64, groups: &[Group], folder: &Path) -> Result<(), String> {
+    fs::create_dir_all(folder).map_err(|error| failed(folder, error))?;
+    let path = folder.join("index");
+    let mut index = BufWriter::new(File::create(&path).map_err(|error| failed(&path, error))?);
+    let mut written = 0;
+    for (number, case) in Sequence::new(seed, groups).take(count as usize).enumerate() {
+        let name = format!("{number:06}");
+        write_case(&case, &folder.join(&name))?;
+        writeln!(index, "{name}\t{}\t{}", case.expected.summary(), case.label).map_err(|error| failed(&path, error))?;
+        written += 1;
+    }
+    index.flush().map_err(|error| failed(&path, error))?;
+    println!("seed {seed}: {written} cases in {}", folder.display());
+    Ok(())
+}
+
+/// A reader that stops early closes the pipe; that is no fault.
+fn write_long(length: u64, block_size: usize) -> Result<(), String> {
+    let mut out = BufWriter::with_capacity(1 << 17, io::stdout().lock());
+    match long::write_stream(length, block_size, &mut out) {
+        Err(error) if error.kind() == io::ErrorKind::BrokenPipe => Ok(()),
+        other => other.map_err(|error| format!("standard output: {error}")),
+    }
+}
+
+fn write_long_files(length: u64, block_size: usize, folder: &Path) -> Result<(), String> {
+    fs::create_dir_all(folder).map_err(|error| failed(folder, error))?;
+    let ring = folder.join("ring");
+    fs::write(&ring, long::ring()).map_err(|error| failed(&ring, error))?;
+    let answers = folder.join("answers");
+    let file = File::create(&answers).map_err(|error| failed(&answers, error))?;
+    let mut out = BufWriter::new(file);
+    let written = long::write_answers(length, block_size, &mut out).and_then(|()| out.flush());
+    written.map_err(|error| failed(&answers, error))
+}

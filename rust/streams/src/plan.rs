@@ -1,0 +1,274 @@
+//! What an honest stream is made from, and how it is built: head, chunk lines, data, data ends and
+//! trailer as separate parts, each with the lines that a reader writes when the part is whole and
+//! all answers are yes.
+
+use crate::base64;
+use crate::head::{Field, Head};
+use crate::sodium::{self, Signer};
+
+/// A record of the key ring.
+#[derive(Clone)]
+pub struct RingRecord {
+    pub key: [u8; 32],
+    pub first: u64,
+    pub last: u64,
+}
+
+/// The text of a ring's file.
+pub fn ring_text(ring: &[RingRecord]) -> Vec<u8> {
+    let mut out = Vec::new();
+    for record in ring {
+        out.extend(base64::encode(&record.key));
+        out.extend(format!(" {} {}\n", record.first, record.last).bytes());
+    }
+    out
+}
+
+/// How a chunk size is written.
+#[derive(Clone, Copy)]
+pub enum SizeStyle {
+    Lower,
+    Upper,
+    /// With leading zeros up to so many digits, letters of both cases.
+    Padded(usize),
+}
+
+impl SizeStyle {
+    pub fn write(self, size: usize) -> Vec<u8> {
+        match self {
+            SizeStyle::Lower => format!("{size:x}").into_bytes(),
+            SizeStyle::Upper => format!("{size:X}").into_bytes(),
+            SizeStyle::Padded(digits) => {
+                let mut text = format!("{size:0digits$x}").into_bytes();
+                text.iter_mut().step_by(2).for_each(|digit| digit.make_ascii_uppercase());
+                text
+            }
+        }
+    }
+}
+
+/// All that an honest stream is made from. The fields are all fields of the head in their order;
+/// the values of `X-Ouinet-BSigs` and `X-Ouinet-Sig0` are filled in when it is built.
+#[derive(Clone)]
+pub struct Plan {
+    pub signer: Signer,
+    pub status: Vec<u8>,
+    pub reason: Vec<u8>,
+    pub fields: Vec<Field>,
+    /// The two pseudo names as written, with a space between.
+    pub pseudo: Vec<u8>,
+    /// The signed list without the two pseudo names, as written.
+    pub listed: Vec<Vec<u8>>,
+    pub id: Vec<u8>,
+    pub created: Vec<u8>,
+    /// The blanks after the commas: two in `X-Ouinet-BSigs`, then four in `X-Ouinet-Sig0`.
+    pub gaps: [Vec<u8>; 6],
+    pub block_size: usize,
+    pub blocks: Vec<Vec<u8>>,
+    pub sizes: SizeStyle,
+    /// The whole trailer with its end.
+    pub trailer: Vec<u8>,
+    pub ring: Vec<RingRecord>,
+}
+
+#[derive(Clone, Copy, PartialEq, Eq, Debug)]
+pub enum Kind {
+    Head,
+    /// A chunk line that announces a block.
+    Line,
+    /// The line of size 0.
+    ZeroLine,
+    Data,
+    DataEnd,
+    Trailer,
+}
+
+/// A part of a stream and what a reader writes once it is whole.
+#[derive(Clone)]
+pub struct Part {
+    pub kind: Kind,
+    pub bytes: Vec<u8>,
+    pub lines: Vec<String>,
+}
+
+/// A stream in parts.
+#[derive(Clone)]
+pub struct Built {
+    pub head: Head,
+    pub parts: Vec<Part>,
+    pub body: Vec<u8>,
+    pub ring: Vec<RingRecord>,
+}
+
+impl Built {
+    pub fn bytes(&self) -> Vec<u8> {
+        self.parts.iter().flat_map(|part| part.bytes.iter().copied()).collect()
+    }
+
+    /// What a reader writes before the part of that number, all yes.
+    pub fn lines_before(&self, part: usize) -> Vec<String> {
+        self.parts[..part].iter().flat_map(|part| part.lines.iter().cloned()).collect()
+    }
+
+    /// What a reader writes for the whole stream, all yes.
+    pub fn lines(&self) -> Vec<String> {
+        self.lines_before(self.parts.len())
+    }
+
+    /// What a reader writes when only so many bytes come and then the end, all yes.
+    pub fn lines_of_beginning(&self, length: usize) -> Vec<String> {
+        let mut end = 0;
+        for (number, part) in self.parts.iter().enumerate() {
+            end += part.bytes.len();
+            if end > length {
+                let mut lines = self.lines_before(number);
+                lines.push("refused 11".to_string());
+                return lines;
+            }
+        }
+        self.lines()
+    }
+
+    /// The numbers of the parts of a kind.
+    pub fn places(&self, kind: Kind) -> Vec<usize> {
+        (0..self.parts.len()).filter(|&number| self.parts[number].kind == kind).collect()
+    }
+}
+
+/// Cuts a body into blocks of this size, the last one shorter if need be.
+pub fn blocks_of(body: &[u8], block_size: usize) -> Vec<Vec<u8>> {
+    body.chunks(block_size).map(<[u8]>::to_vec).collect()
+}
+
+impl Plan {
+    pub fn field(&mut self, name: &str) -> &mut Field {
+        let found = self.fields.iter_mut().find(|field| field.name.eq_ignore_ascii_case(name.as_bytes()));
+        found.unwrap_or_else(|| panic!("the plan has no field {name}"))
+    }
+
+    pub fn add(&mut self, name: &str, value: &[u8]) {
+        self.fields.push(Field::new(name, value));
+    }
+
+    pub fn list(&mut self, name: &str) {
+        self.listed.push(name.as_bytes().to_vec());
+    }
+
+    /// Sets the id and the second in the injection field.
+    pub fn set_injection(&mut self, id: &[u8], ts: &[u8]) {
+        self.id = id.to_vec();
+        self.field("X-Ouinet-Injection").value = [b"id=", id, b",ts=", ts].concat();
+    }
+
+    fn key_id(&self) -> Vec<u8> {
+        [b"keyId=\"ed25519=", &base64::encode(&self.signer.public)[..], b"\""].concat()
+    }
+
+    fn bsigs(&self) -> Vec<u8> {
+        let size = self.block_size.to_string();
+        let [gap_1, gap_2, ..] = &self.gaps;
+        [&self.key_id()[..], b",", gap_1, b"algorithm=\"hs2019\",", gap_2, b"size=", size.as_bytes()].concat()
+    }
+
+    fn sig0(&self, signature: &[u8; 64]) -> Vec<u8> {
+        let [_, _, gap_1, gap_2, gap_3, gap_4] = &self.gaps;
+        let mut list = self.pseudo.clone();
+        for name in &self.listed {
+            list.push(b' ');
+            list.extend(name);
+        }
+        [
+            &self.key_id()[..],
+            b",",
+            gap_1,
+            b"algorithm=\"hs2019\",",
+            gap_2,
+            b"created=",
+            &self.created,
+            b",",
+            gap_3,
+            b"headers=\"",
+            &list,
+            b"\",",
+            gap_4,
+            b"signature=\"",
+            &base64::encode(signature),
+            b"\"",
+        ]
+        .concat()
+    }
+
+    /// The text that the head's signature covers. A listed name that is no field stands for
+    /// nothing, so that lists can be broken.
+    fn signing_string(&self, fields: &[Field]) -> Vec<u8> {
+        let mut lines =
+            vec![[b"(response-status): ", &self.status[..]].concat(), [b"(created): ", &self.created[..]].concat()];
+        for name in &self.listed {
+            if let Some(field) = fields.iter().find(|field| field.name.eq_ignore_ascii_case(name)) {
+                lines.push([&name.to_ascii_lowercase()[..], b": ", &field.value].concat());
+            }
+        }
+        lines.join(&b'\n')
+    }
+
+    /// Builds the head; also gives the length of what its signature covers.
+    fn build_head(&self) -> (Head, usize) {
+        let mut head = Head {
+            status_line: [b"HTTP/1.1 ", &self.status[..], b" ", &self.reason].concat(),
+            fields: self.fields.clone(),
+        };
+        head.set("X-Ouinet-BSigs", &self.bsigs());
+        let message = self.signing_string(&head.fields);
+        head.set("X-Ouinet-Sig0", &self.sig0(&self.signer.sign(&message)));
+        (head, message.len())
+    }
+
+    /// Builds the whole stream.
+    pub fn build(&self) -> Built {
+        let (head, asked) = self.build_head();
+        let status = String::from_utf8_lossy(&self.status);
+        let mut parts = vec![Part {
+            kind: Kind::Head,
+            bytes: head.bytes(),
+            lines: vec![format!("question {asked}"), format!("head {status}")],
+        }];
+        let mut hash: Vec<u8> = Vec::new();
+        let mut pending: Option<(Vec<u8>, Vec<String>)> = None;
+        for (number, block) in self.blocks.iter().enumerate() {
+            parts.push(self.line(Kind::Line, block.len(), pending.take()));
+            parts.push(Part { kind: Kind::Data, bytes: block.clone(), lines: Vec::new() });
+            parts.push(Part { kind: Kind::DataEnd, bytes: b"\r\n".to_vec(), lines: Vec::new() });
+            hash = sodium::sha512(&[&hash[..], block].concat()).to_vec();
+            let offset = number * self.block_size;
+            let message = block_message(&self.id, offset as u64, &hash);
+            let lines = vec![format!("question {}", message.len()), format!("block {offset} {}", block.len())];
+            pending = Some((base64::encode(&self.signer.sign(&message)), lines));
+        }
+        parts.push(self.line(Kind::ZeroLine, 0, pending));
+        let body = self.blocks.concat();
+        parts.push(Part {
+            kind: Kind::Trailer,
+            bytes: self.trailer.clone(),
+            lines: vec![format!("closed {}", body.len())],
+        });
+        Built { head, parts, body, ring: self.ring.clone() }
+    }
+
+    /// A chunk line, with the signature of the block before if there is one.
+    fn line(&self, kind: Kind, size: usize, before: Option<(Vec<u8>, Vec<String>)>) -> Part {
+        let mut bytes = self.sizes.write(size);
+        let mut lines = Vec::new();
+        if let Some((signature, events)) = before {
+            bytes.extend(b";ouisig=");
+            bytes.extend(signature);
+            lines = events;
+        }
+        bytes.extend(b"\r\n");
+        Part { kind, bytes, lines }
+    }
+}
+
+/// What a block's signature covers.
+pub fn block_message(id: &[u8], offset: u64, hash: &[u8]) -> Vec<u8> {
+    [id, b"\0", offset.to_string().as_bytes(), b"\0", hash].concat()
+}

@@ -1,0 +1,162 @@
+//! A table of the rules of paper 01, each broken once, with the number that a reader must refuse
+//! with. A rule is broken on an otherwise honest stream, so what comes before is known as well.
+
+mod edits;
+mod in_body;
+mod in_head;
+mod in_signatures;
+
+use crate::head::Head;
+use crate::plan::{Built, Kind, Part, Plan, RingRecord};
+use crate::rng::Rng;
+
+/// Which part of a stream is broken, and so which one is refused.
+#[derive(Clone, Copy, PartialEq, Eq, Debug)]
+pub enum Spot {
+    Head,
+    FirstLine,
+    LaterLine,
+    ZeroLine,
+    Data,
+    DataEnd,
+    Trailer,
+}
+
+const ANY_LINE: &[Spot] = &[Spot::FirstLine, Spot::LaterLine, Spot::ZeroLine];
+const SIGNED_LINE: &[Spot] = &[Spot::LaterLine, Spot::ZeroLine];
+
+type PlanEdit = Box<dyn Fn(&mut Plan)>;
+type HeadEdit = Box<dyn Fn(&mut Head)>;
+type PartEdit = Box<dyn Fn(&[u8], &Plan) -> Vec<u8>>;
+
+/// A rule to break: on the plan before anything is signed, on the built head, or on the bytes of a
+/// part.
+pub struct Rule {
+    pub label: String,
+    pub number: u8,
+    pub spots: Vec<Spot>,
+    plan: PlanEdit,
+    head: HeadEdit,
+    part: PartEdit,
+}
+
+/// A stream with a broken rule and what a reader writes for it, all yes.
+pub struct Broken {
+    pub stream: Vec<u8>,
+    pub lines: Vec<String>,
+    pub body: Vec<u8>,
+    pub ring: Vec<RingRecord>,
+}
+
+impl Rule {
+    /// Breaks the rule at this spot of the plan's stream. The plan must have two full blocks and a
+    /// short one.
+    pub fn break_at(&self, spot: Spot, plan: &Plan, rng: &mut Rng) -> Broken {
+        let mut plan = plan.clone();
+        (self.plan)(&mut plan);
+        let mut built = plan.build();
+        let number = part_number(&built, spot, rng);
+        if spot == Spot::Head {
+            (self.head)(&mut built.head);
+            built.parts[0].bytes = built.head.bytes();
+        }
+        let mut lines = built.lines_before(number);
+        lines.push(format!("refused {}", self.number));
+        let part: &mut Part = &mut built.parts[number];
+        part.bytes = (self.part)(&part.bytes, &plan);
+        Broken { stream: built.bytes(), lines, body: built.body, ring: built.ring }
+    }
+}
+
+fn part_number(built: &Built, spot: Spot, rng: &mut Rng) -> usize {
+    let lines = built.places(Kind::Line);
+    match spot {
+        Spot::Head => 0,
+        Spot::FirstLine => lines[0],
+        Spot::LaterLine => *rng.pick(&lines[1..]),
+        Spot::ZeroLine => built.places(Kind::ZeroLine)[0],
+        Spot::Data => *rng.pick(&built.places(Kind::Data)),
+        Spot::DataEnd => *rng.pick(&built.places(Kind::DataEnd)),
+        Spot::Trailer => built.places(Kind::Trailer)[0],
+    }
+}
+
+/// All rules of the table.
+pub fn all() -> Vec<Rule> {
+    let mut table = Table::default();
+    table.status_line();
+    table.field_lines();
+    table.doubled_names();
+    table.version();
+    table.simple_fields();
+    table.injection();
+    table.keys_and_algorithms();
+    table.bsigs();
+    table.sig0();
+    table.list();
+    table.ring();
+    table.order_in_the_head();
+    table.line_text();
+    table.line_rules();
+    table.data_ends();
+    table.trailer();
+    table.rules
+}
+
+/// The table in the making. The rules themselves are added in the modules above.
+#[derive(Default)]
+struct Table {
+    rules: Vec<Rule>,
+}
+
+impl Table {
+    fn push(&mut self, number: u8, label: String, spots: &[Spot], plan: PlanEdit, head: HeadEdit, part: PartEdit) {
+        self.rules.push(Rule { label, number, spots: spots.to_vec(), plan, head, part });
+    }
+
+    /// Broken on the plan: all the rest is signed as it should be. The head is refused.
+    fn plan(&mut self, number: u8, label: impl Into<String>, edit: impl Fn(&mut Plan) + 'static) {
+        self.push(number, label.into(), &[Spot::Head], Box::new(edit), Box::new(|_| ()), unchanged());
+    }
+
+    /// Broken on the built head.
+    fn head(&mut self, number: u8, label: impl Into<String>, edit: impl Fn(&mut Head) + 'static) {
+        self.push(number, label.into(), &[Spot::Head], Box::new(|_| ()), Box::new(edit), unchanged());
+    }
+
+    /// Broken on the bytes of a part.
+    fn part(
+        &mut self,
+        number: u8,
+        label: impl Into<String>,
+        spots: &[Spot],
+        edit: impl Fn(&[u8], &Plan) -> Vec<u8> + 'static,
+    ) {
+        self.push(number, label.into(), spots, Box::new(|_| ()), Box::new(|_| ()), Box::new(edit));
+    }
+
+    /// Broken by a plan of another shape: refused at this spot.
+    fn shape(&mut self, number: u8, label: impl Into<String>, spot: Spot, plan: impl Fn(&mut Plan) + 'static) {
+        self.push(number, label.into(), &[spot], Box::new(plan), Box::new(|_| ()), unchanged());
+    }
+
+    /// A field's value set to each of these texts.
+    fn values(&mut self, number: u8, name: &'static str, texts: &[&'static str]) {
+        for &text in texts {
+            self.head(number, format!("{name} is {text:?}"), move |head| head.set(name, text.as_bytes()));
+        }
+    }
+
+    /// A text in a field's value replaced by another.
+    fn replacements(&mut self, number: u8, name: &'static str, pairs: &[(&'static str, &'static str)]) {
+        for &(old, new) in pairs {
+            self.head(number, format!("{name} has {new:?} for {old:?}"), move |head| {
+                head.replace(name, old.as_bytes(), new.as_bytes())
+            });
+        }
+    }
+}
+
+fn unchanged() -> PartEdit {
+    Box::new(|bytes, _| bytes.to_vec())
+}

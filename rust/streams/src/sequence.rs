@@ -1,0 +1,197 @@
+//! The cases of a seed, in order: first the fixed tables, then damage at every place (in an order
+//! that the seed shuffles) and random streams by turns.
+
+use crate::bounds;
+use crate::case::{Answering, Case};
+use crate::damage::{self, Hit};
+use crate::example;
+use crate::inputs;
+use crate::plan::Built;
+use crate::random;
+use crate::rng::Rng;
+use crate::rules::{self, Rule, Spot};
+use std::collections::VecDeque;
+
+/// The groups that cases come from.
+#[derive(Clone, Copy, PartialEq, Eq, Debug)]
+pub enum Group {
+    Example,
+    Rules,
+    Bounds,
+    Inputs,
+    Damage,
+    Mixed,
+}
+
+pub const GROUPS: [(&str, Group); 6] = [
+    ("example", Group::Example),
+    ("rules", Group::Rules),
+    ("bounds", Group::Bounds),
+    ("inputs", Group::Inputs),
+    ("damage", Group::Damage),
+    ("mixed", Group::Mixed),
+];
+
+/// Reads a list of group names with commas between.
+pub fn parse_groups(text: &str) -> Result<Vec<Group>, String> {
+    text.split(',')
+        .map(|word| {
+            let found = GROUPS.iter().find(|(name, _)| *name == word);
+            let names: Vec<&str> = GROUPS.iter().map(|(name, _)| *name).collect();
+            found.map(|(_, group)| *group).ok_or_else(|| format!("no group {word:?}; there are {}", names.join(", ")))
+        })
+        .collect()
+}
+
+/// All groups.
+pub fn all_groups() -> Vec<Group> {
+    GROUPS.iter().map(|(_, group)| *group).collect()
+}
+
+/// An iterator over the cases of a seed. It ends only where `mixed` is not among the groups.
+pub struct Sequence {
+    seed: u64,
+    number: u64,
+    mixed: bool,
+    fixed: VecDeque<Case>,
+    rules: Vec<Rule>,
+    small: Vec<Built>,
+    hits: Vec<Hit>,
+}
+
+impl Sequence {
+    pub fn new(seed: u64, groups: &[Group]) -> Self {
+        let mut rng = Rng::new(seed);
+        let rules = rules::all();
+        let mut fixed = VecDeque::new();
+        let has = |group| groups.contains(&group);
+        if has(Group::Example) {
+            fixed.extend(example_cases(&mut rng));
+        }
+        if has(Group::Rules) {
+            fixed.extend(rule_cases(&rules, &mut rng));
+        }
+        if has(Group::Bounds) {
+            fixed.extend(bounds::all(&mut rng));
+        }
+        if has(Group::Inputs) {
+            fixed.extend(inputs::all());
+        }
+        let small = damage::streams();
+        let mut hits = if has(Group::Damage) { damage::every_place(&small) } else { Vec::new() };
+        rng.shuffle(&mut hits);
+        Sequence { seed, number: 0, mixed: has(Group::Mixed), fixed, rules, small, hits }
+    }
+
+    /// How many cases the fixed tables have left.
+    pub fn fixed_left(&self) -> usize {
+        self.fixed.len()
+    }
+
+    /// How many places of damage are left.
+    pub fn damage_left(&self) -> usize {
+        self.hits.len()
+    }
+}
+
+impl Iterator for Sequence {
+    type Item = Case;
+
+    fn next(&mut self) -> Option<Case> {
+        self.number += 1;
+        if let Some(case) = self.fixed.pop_front() {
+            return Some(case);
+        }
+        let mut rng = Rng::for_case(self.seed, self.number);
+        let turn_of_damage = !self.mixed || self.number.is_multiple_of(2);
+        if turn_of_damage {
+            if let Some(hit) = self.hits.pop() {
+                return Some(damage::case(hit, &self.small, &mut rng));
+            }
+        }
+        self.mixed.then(|| mixed_case(&self.rules, &mut rng))
+    }
+}
+
+/// The example in several ways of cutting and answering.
+fn example_cases(rng: &mut Rng) -> Vec<Case> {
+    let built = example::plan().build();
+    let mut cases = vec![Case::whole("the example", &built, Answering::AllYes, rng)];
+    cases[0].cuts = None;
+    for cut in [1, 2, 3, 5, 7, 64, 1000] {
+        let mut case = Case::whole(format!("the example in pieces of {cut}"), &built, Answering::Verified, rng);
+        case.cuts = Some(format!("{cut}\n").into_bytes());
+        cases.push(case);
+    }
+    for count in 0..4 {
+        cases.push(Case::whole(format!("the example, no to question {count}"), &built, Answering::NoAfter(count), rng));
+        cases.push(Case::whole(format!("the example, {count} answers"), &built, Answering::OutAfter(count), rng));
+    }
+    for _ in 0..8 {
+        cases.push(Case::whole("the example in some pieces", &built, Answering::Verified, rng));
+    }
+    cases
+}
+
+/// Each rule of the table broken once at each of its spots, on the example.
+fn rule_cases(rules: &[Rule], rng: &mut Rng) -> Vec<Case> {
+    let plan = example::plan();
+    let mut cases = Vec::new();
+    for rule in rules {
+        for &spot in &rule.spots {
+            cases.push(rule_case(rule, spot, &plan, Answering::AllYes, rng));
+        }
+    }
+    cases
+}
+
+fn rule_case(rule: &Rule, spot: Spot, plan: &crate::plan::Plan, answering: Answering, rng: &mut Rng) -> Case {
+    let broken = rule.break_at(spot, plan, rng);
+    let label = format!("{} at {spot:?}", rule.label);
+    Case::known(label, broken.stream, &broken.ring, &broken.lines, &broken.body, answering, rng)
+}
+
+/// A random case of any kind.
+fn mixed_case(rules: &[Rule], rng: &mut Rng) -> Case {
+    match rng.below(10) {
+        0..=3 => honest_case(rng),
+        4..=6 => {
+            let rule = rng.pick(rules);
+            let spot = *rng.pick(&rule.spots);
+            let plan = random::full_plan(rng);
+            rule_case(rule, spot, &plan, *rng.pick(&[Answering::AllYes, Answering::Verified]), rng)
+        }
+        7 => {
+            let built = random::plan(rng).build();
+            let mut bytes = built.bytes();
+            let length = rng.below(bytes.len() + 1);
+            bytes.truncate(length);
+            let lines = built.lines_of_beginning(length);
+            let label = format!("a random stream cut off at {length}");
+            Case::known(label, bytes, &built.ring, &lines, &built.body, Answering::Verified, rng)
+        }
+        _ => {
+            let built = random::full_plan(rng).build();
+            damage::several(&built, rng)
+        }
+    }
+}
+
+/// A random honest stream, answered in some way, with some bytes behind it now and then.
+fn honest_case(rng: &mut Rng) -> Case {
+    let built = random::plan(rng).build();
+    let questions = built.lines().iter().filter(|line| line.starts_with("question")).count();
+    let answering = match rng.below(8) {
+        0 => Answering::NoAfter(rng.below(questions)),
+        1 => Answering::OutAfter(rng.below(questions)),
+        2 | 3 => Answering::AllYes,
+        _ => Answering::Verified,
+    };
+    let mut bytes = built.bytes();
+    if rng.one_in(4) {
+        let count = rng.between(1, 50);
+        bytes.extend(rng.bytes(count));
+    }
+    let label = format!("a random honest stream of {} bytes", bytes.len());
+    Case::known(label, bytes, &built.ring, &built.lines(), &built.body, answering, rng)
+}

@@ -1,0 +1,285 @@
+//! The generator against the second reader, in one process: the plain reading, the piecewise reader
+//! and the list of calls must agree with each other and with what the generator expects.
+
+use second::calls::{Calls, Contents, Holds, Outcome, Word};
+use second::event::Event;
+use second::files;
+use second::plain;
+use second::reader::Reader;
+use second::ring::Record;
+use streams::case::{Case, Expected};
+use streams::example;
+use streams::plan::RingRecord;
+use streams::rng::Rng;
+use streams::sequence::{all_groups, Group, Sequence};
+use streams::sodium;
+
+/// The inputs of a case as values. Nothing for a case with malformed files.
+struct Inputs {
+    ring: Vec<Record>,
+    answers: Vec<bool>,
+    cuts: Vec<usize>,
+}
+
+fn inputs(case: &Case) -> Option<Inputs> {
+    if matches!(case.expected, Expected::Malformed { .. }) {
+        return None;
+    }
+    let cuts = case.cuts.as_deref().unwrap_or(b"65536\n");
+    Some(Inputs {
+        ring: files::parse_ring(&case.ring).expect("a good ring"),
+        answers: case.answers.iter().filter(|byte| !byte.is_ascii_whitespace()).map(|&byte| byte == b'y').collect(),
+        cuts: files::parse_cuts(cuts).expect("good cuts"),
+    })
+}
+
+/// The pieces of a stream after a list of cuts.
+fn pieces<'a>(stream: &'a [u8], cuts: &[usize]) -> Vec<&'a [u8]> {
+    let mut rest = stream;
+    let mut pieces = Vec::new();
+    for &cut in cuts.iter().cycle() {
+        let (piece, after) = rest.split_at(cut.min(rest.len()));
+        pieces.push(piece);
+        rest = after;
+        if rest.is_empty() {
+            return pieces;
+        }
+    }
+    pieces
+}
+
+/// The events of the piecewise reader and the bytes it released.
+fn by_reader(stream: &[u8], inputs: &Inputs) -> (Vec<Event>, Vec<u8>) {
+    let mut reader = Reader::new(inputs.ring.clone());
+    let mut answers = inputs.answers.iter();
+    let (mut events, mut body) = (Vec::new(), Vec::new());
+    for piece in pieces(stream, &inputs.cuts) {
+        let mut rest = piece;
+        loop {
+            let (taken, event) = reader.feed(rest).expect("in time");
+            rest = &rest[taken..];
+            let Some(event) = event else { break };
+            let is_final = event.is_final();
+            events.push(event);
+            if is_final {
+                return (events, body);
+            }
+            let Some(&yes) = answers.next() else {
+                return (events, body);
+            };
+            let event = reader.answer(yes).expect("a question is open");
+            body.extend_from_slice(reader.block());
+            let is_final = event.is_final();
+            events.push(event);
+            if is_final {
+                return (events, body);
+            }
+        }
+    }
+    events.push(reader.end().expect("in time"));
+    (events, body)
+}
+
+/// The words of a list of calls that goes on from the first byte not taken. At each call the place
+/// is held against the plain reading, and the block and a value against their times.
+fn by_calls(stream: &[u8], inputs: &Inputs) -> (Vec<Word>, Vec<u8>) {
+    let whole = plain::read(stream, &inputs.ring, &inputs.answers, true);
+    let mut calls = Calls::new();
+    let mut answers = inputs.answers.iter();
+    let (mut words, mut body) = (Vec::new(), Vec::new());
+    let mut note = |calls: &Calls, outcome: Outcome, words: &mut Vec<Word>| {
+        if outcome.word == Word::More {
+            return;
+        }
+        assert_eq!(calls.bytes().len(), whole.events[words.len()].place);
+        assert_eq!(calls.block(65_535), b"");
+        body.extend_from_slice(calls.block(65_536));
+        words.push(outcome.word);
+    };
+    for piece in pieces(stream, &inputs.cuts) {
+        let mut rest = piece;
+        loop {
+            let outcome = calls.feed(Holds::ENOUGH, &inputs.ring, rest);
+            rest = &rest[outcome.taken..];
+            assert_eq!(calls.block(65_536), b"");
+            if outcome.word == Word::More {
+                assert!(rest.is_empty());
+                break;
+            }
+            note(&calls, outcome, &mut words);
+            if !matches!(words.last(), Some(Word::Question(_))) {
+                return (words, body);
+            }
+            let Some(&yes) = answers.next() else {
+                return (words, body);
+            };
+            let outcome = calls.answer(Holds::ENOUGH, yes);
+            note(&calls, outcome, &mut words);
+            if matches!(words.last(), Some(Word::Refused { .. })) {
+                return (words, body);
+            }
+        }
+    }
+    let outcome = calls.end(Holds::ENOUGH);
+    note(&calls, outcome, &mut words);
+    (words, body)
+}
+
+fn check(case: &Case, with_calls: bool) {
+    let Some(inputs) = inputs(case) else { return };
+    let whole = plain::read(&case.stream, &inputs.ring, &inputs.answers, true);
+    let events: Vec<Event> = whole.events.iter().map(|placed| placed.event.clone()).collect();
+    let (by_reader, body) = by_reader(&case.stream, &inputs);
+    assert_eq!(by_reader, events, "{}", case.label);
+    if let Expected::Exactly { lines, body: expected } = &case.expected {
+        let written: Vec<String> = events.iter().map(|event| event.to_string()).collect();
+        assert_eq!(&written, lines, "{}", case.label);
+        assert_eq!(&body, expected, "{}", case.label);
+    }
+    if with_calls {
+        let (words, released) = by_calls(&case.stream, &inputs);
+        let expected: Vec<Word> = events.into_iter().map(Word::from).collect();
+        assert_eq!(words, expected, "{}", case.label);
+        assert_eq!(released, body, "{}", case.label);
+    }
+}
+
+#[test]
+fn reader_and_plain_reading_agree() {
+    for case in Sequence::new(11, &all_groups()).take(2500) {
+        check(&case, false);
+    }
+}
+
+#[test]
+fn calls_agree_on_short_streams() {
+    let groups = [Group::Example, Group::Damage, Group::Mixed];
+    for mut case in Sequence::new(12, &groups).filter(|case| case.stream.len() < 3000).take(150) {
+        if case.cuts.as_deref() == Some(b"1\n") {
+            case.cuts = Some(b"7\n0\n1\n".to_vec());
+        }
+        check(&case, true);
+    }
+}
+
+/// The count that a feed takes, found by trying every beginning of the piece.
+#[test]
+fn a_feed_takes_the_shortest_beginning_that_gains_an_event() {
+    let built = example::short_plan().build();
+    let stream = built.bytes();
+    let ring = records(&built.ring);
+    let mut calls = Calls::new();
+    let mut answers = Vec::new();
+    let mut done = 0;
+    loop {
+        let events = |count: usize| plain::read(&stream[..count], &ring, &answers, false).events.len();
+        let before = events(done);
+        let shortest = (done..=stream.len()).find(|&count| events(count) > before);
+        let outcome = calls.feed(Holds::ENOUGH, &ring, &stream[done..]);
+        assert_eq!(Some(done + outcome.taken), shortest);
+        done += outcome.taken;
+        match outcome.word {
+            Word::Question(_) => {
+                calls.answer(Holds::ENOUGH, true);
+                answers.push(true);
+            }
+            Word::Closed { total } => {
+                assert_eq!((total, done), (2, stream.len()));
+                return;
+            }
+            other => panic!("{other:?}"),
+        }
+    }
+}
+
+fn records(ring: &[RingRecord]) -> Vec<Record> {
+    ring.iter().map(|record| Record { key: record.key, first: record.first, last: record.last }).collect()
+}
+
+#[test]
+fn the_question_names_the_first_record_that_fits() {
+    let mut plan = example::plan();
+    let ts = 1_584_748_800;
+    let own = |first, last| RingRecord { key: plan.signer.public, first, last };
+    let other = RingRecord { key: [3; 32], first: 0, last: u64::MAX };
+    plan.ring = vec![own(0, ts - 1), own(ts + 1, u64::MAX), other, own(ts, ts), own(0, u64::MAX)];
+    let built = plan.build();
+    let reading = plain::read(&built.bytes(), &records(&built.ring), &[true; 4], true);
+    for placed in &reading.events {
+        if let Event::Question(question) = &placed.event {
+            assert_eq!(question.record, 3);
+            assert!(sodium::verify(&plan.signer.public, &question.message, &question.signature));
+        }
+    }
+    assert_eq!(reading.events.len(), 9);
+}
+
+#[test]
+fn the_two_hashes_agree() {
+    let mut rng = Rng::new(3);
+    for length in (0..300).chain([1000, 65_536, 65_600]) {
+        let bytes = rng.bytes(length);
+        assert_eq!(second::sha512::sha512(&[&bytes]), sodium::sha512(&bytes), "{length} bytes");
+    }
+}
+
+/// Holds filled with a mark, so that every byte that is written or left alone shows.
+fn marked() -> Contents {
+    Contents { head: vec![0xaa; 8192], block: vec![0xbb; 65_536], question: vec![0xcc; 8192] }
+}
+
+#[test]
+fn what_lies_in_the_holds() {
+    let built = example::plan().build();
+    let ring = records(&built.ring);
+    let enough = Holds::ENOUGH;
+    let part = |number: usize| &built.parts[number].bytes[..];
+    let mut calls = Calls::new();
+    calls.feed(enough, &ring, part(0));
+    let now = calls.contents(&marked());
+    assert!(now.head.starts_with(part(0)));
+    assert!(now.head[part(0).len()..].iter().all(|&byte| byte == 0xaa));
+    assert!(now.question.starts_with(b"(response-status): 200\n"));
+    assert!(now.question[219..].iter().all(|&byte| byte == 0xcc));
+    assert_eq!(now.block, marked().block);
+
+    calls.answer(enough, true);
+    for number in 1..=3 {
+        calls.feed(enough, &ring, part(number));
+    }
+    assert!(calls.contents(&marked()).block.starts_with(b"Hello\xbb\xbb"));
+    calls.feed(enough, &ring, part(4));
+    calls.answer(enough, true);
+    assert_eq!(calls.block(65_536), b"Hello");
+    calls.feed(enough, &ring, b" w");
+    assert!(calls.contents(&marked()).block.starts_with(b" wllo\xbb"));
+
+    // The two bytes gathered of the block are set to zero, the older ones behind them stay.
+    calls.end(enough);
+    let now = calls.contents(&marked());
+    assert!(now.block.starts_with(b"\0\0llo\xbb"));
+    assert!(now.head.starts_with(part(0)));
+}
+
+#[test]
+fn a_refusal_after_a_release_leaves_the_block_hold_alone() {
+    let built = example::plan().build();
+    let ring = records(&built.ring);
+    let mut calls = Calls::new();
+    for part in &built.parts[..5] {
+        calls.feed(Holds::ENOUGH, &ring, &part.bytes);
+        calls.answer(Holds::ENOUGH, true);
+    }
+    assert_eq!(calls.end(Holds::ENOUGH).word, Word::Refused { number: 11 });
+    assert!(calls.contents(&marked()).block.starts_with(b"Hello\xbb"));
+}
+
+#[test]
+fn the_same_seed_gives_the_same_cases() {
+    let streams = |seed| -> Vec<Vec<u8>> {
+        let groups = [Group::Mixed];
+        Sequence::new(seed, &groups).take(30).map(|case| case.stream).collect()
+    };
+    assert_eq!(streams(4), streams(4));
+    assert_ne!(streams(4), streams(5));
+}
