@@ -8,7 +8,8 @@ use native.Mathlib.Omega.{arith}
 use lib.Dec.{eqb, leb}
 use lib.ListN.{length, getD, drop, length-drop}
 use Rattle.octets.specs.Choice.{pick}
-use Rattle.base64.specs.Base64.{first4, holdsOne, holdsTwo, holdsThree, isText, bytesOf, Decoded, answered, decoded}
+use Rattle.base64.specs.Base64.{first4, holdsOne, holdsTwo, holdsThree, isText, bytesOf}
+use Rattle.base64.specs.Decoding.{Decoded, answered, decoded}
 use Rattle.base64.proofs.Computed.{both-left, both-right}
 
 -- n bytes are n bytes

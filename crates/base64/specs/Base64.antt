@@ -5,7 +5,6 @@ use mathlib.Core.List.{List, [], _∷_}
 use Prim.Native.Nat.{ℕ, zero, suc, _+_, _*_, _/_, _%_}
 use lib.Dec.{eqb, leb, ltb}
 use lib.ListN.{length, getD, drop}
-use Rattle.octets.specs.Choice.{pick}
 use Rattle.octets.specs.Octets.{octets}
 
 -- Section 4, table 1: the letters of the values 0 to 63, in order.
@@ -85,15 +84,3 @@ textOf [] = []
 textOf (x ∷ []) = letterOf (x / 4) ∷ letterOf (x % 4 * 16) ∷ padding ∷ padding ∷ []
 textOf (x ∷ y ∷ []) = letterOf (x / 4) ∷ letterOf (x % 4 * 16 + y / 16) ∷ letterOf (y % 16 * 4) ∷ padding ∷ []
 textOf (x ∷ y ∷ z ∷ r) = letterOf (x / 4) ∷ letterOf (x % 4 * 16 + y / 16) ∷ letterOf (y % 16 * 4 + z / 64) ∷ letterOf (z % 64) ∷ textOf r
-
--- What decoding into a buffer answers, and what the buffer then holds.
-pub record Decoded : Type 0 where
-  pub ok : Bool
-  pub buffer : List ℕ
-
-abbrev pub answered : Bool → List ℕ → Decoded
-answered ok buffer = record { ok = ok; buffer = buffer }
-
--- Decoding n bytes into a buffer: a text of n bytes is answered with yes and its bytes, anything else with no and the buffer as it was.
-unfoldable pub decoded : ℕ → List ℕ → List ℕ → Decoded
-decoded n t buffer = pick (isText n t) (answered true (bytesOf n t)) (answered false buffer)

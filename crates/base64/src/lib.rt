@@ -2,7 +2,8 @@
 ghost use mathlib.Core.Path.{_≡_};
 ghost use Prim.Native.Nat.{_+_, _*_, _/_, _≤_, _<_};
 ghost use lib.ListN.{length, set};
-ghost use Rattle.base64.specs.Base64.{valueOf, holdsOne, holdsTwo, holdsThree, isText, joined, bytesOf, answered, decoded};
+ghost use Rattle.base64.specs.Base64.{valueOf, holdsOne, holdsTwo, holdsThree, isText, joined, bytesOf};
+ghost use Rattle.base64.specs.Decoding.{answered, decoded};
 
 // A letter's value, and 64 for any other byte.
 fn value(b: u8) -> u32

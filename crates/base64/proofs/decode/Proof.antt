@@ -4,7 +4,7 @@ use borrow.Author.Tests.{not-true, not-false}
 use mathlib.Core.Bool.{true}
 use mathlib.Core.Path.{sym, ap, _∙_}
 use native.Mathlib.Nat.{le-of-eq}
-use Rattle.base64.specs.Base64.{answered}
+use Rattle.base64.specs.Decoding.{answered}
 use Rattle.base64.proofs.Laws.{text-length, decoded-text, decoded-other}
 use Rattle.base64.proofs.decode.Statement.{statement}
 use Rattle.base64.proofs.decode.Tie as tie

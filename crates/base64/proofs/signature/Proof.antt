@@ -4,7 +4,7 @@ use mathlib.Core.Path.{ap, _∙_}
 use Prim.Native.Nat.{ℕ}
 use native.Mathlib.Omega.{arith}
 use denote.Ref.{now}
-use Rattle.base64.specs.Base64.{decoded}
+use Rattle.base64.specs.Decoding.{decoded}
 use Rattle.base64.proofs.signature.Statement.{statement}
 use Rattle.base64.proofs.signature.Tie as tie
 
