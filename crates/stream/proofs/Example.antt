@@ -1,5 +1,5 @@
--- Document 000's example as a stream: block size 5, the body `Hello world!`, no trailer fields. The key and the signatures are
--- texts of the right form; nothing here asks whether they are true. Assumes nothing.
+-- Document 000's example as a stream: block size 5, the body `Hello world!`; the listed names are in lower case, and the trailer has no
+-- fields. The key and the signatures are texts of the right form; nothing here asks whether they are true. Assumes nothing.
 use mathlib.Core.List.{List, [], _∷_, _++_}
 use Prim.Native.Nat.{ℕ}
 use lib.ListN.{replicate}
@@ -50,4 +50,4 @@ abbrev pub ring : Ring
 ring = record { key = replicate 32 0; first = 0; last = 1_584_748_800 } ∷ []
 
 abbrev pub show : Show
-show = record { id = octets "qwertyuiop-12345"; size = 16; key = 0 }
+show = record { id = octets "qwertyuiop-12345"; size = 16; keyNumber = 0 }

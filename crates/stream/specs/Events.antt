@@ -3,11 +3,11 @@ use mathlib.Core.List.{List}
 use Prim.Native.Nat.{ℕ}
 use Rattle.stream.specs.Lines.{Field}
 
--- *question*: the message, the 64 signature bytes that are to be its signature, and the number of the key's record
+-- *question*: the message, the 64 bytes that are to be its signature, and the number of the key's record in the ring
 pub record Question : Type 0 where
   pub message : List ℕ
   pub signature : List ℕ
-  pub key : ℕ
+  pub keyNumber : ℕ
 
 -- *head accepted*, with the status; the signed fields are those whose values are handed out from then on.
 -- *block*, with its offset; its bytes, whose number is its length, are what is handed out.

@@ -1,6 +1,6 @@
 -- The fields of a head by name: "names are compared without case". Assumes nothing.
 use mathlib.Core.Bool.{Bool, true, false, _||_}
-use mathlib.Core.List.{List, [], _∷_, map}
+use mathlib.Core.List.{List, [], _∷_}
 use Prim.Native.Nat.{ℕ}
 use Rattle.stream.specs.Bytes.{sameName}
 use Rattle.stream.specs.Lines.{Field}

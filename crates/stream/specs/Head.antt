@@ -1,10 +1,10 @@
 -- The head: what it says, and the rules that it must keep, in the order in which they are tested (paper 01, "The head").
 -- Assumes nothing.
-use mathlib.Core.Bool.{Bool, true, false, _&&_, _||_, not}
+use mathlib.Core.Bool.{Bool, false, _||_, not}
 use mathlib.Core.List.{List, [], _∷_, _++_}
 use mathlib.Core.Option.{Option}
 use Prim.Native.Nat.{ℕ}
-use lib.Dec.{eqb, leb}
+use lib.Dec.{leb}
 use lib.ListN.{length, drop}
 use Rattle.octets.specs.Octets.{octets}
 use Rattle.base64.specs.Base64.{bytesOf}
@@ -13,11 +13,11 @@ use Rattle.stream.specs.Fields.{isDoubled, namesOf, hasField, valueOf}
 use Rattle.stream.specs.Limits.{headLimit, fieldLimit}
 use Rattle.stream.specs.Lines.{crlf, endsWith, textLines, Field, areFieldLines, fieldsOf, isStatusLine, statusOf}
 use Rattle.stream.specs.Numbers.{decimalValue}
-use Rattle.stream.specs.Ring.{Ring, found, isFound, numberOf}
+use Rattle.stream.specs.Ring.{Ring, found, isFound}
 use Rattle.stream.specs.Rule.{Rule, rule, firstBroken}
-use Rattle.stream.specs.Signatures.{injectionScan, isInjection, bsigsScan, isBsigs, sig0Scan, isSig0, splitNames, listedFields, isNameList, responseStatus, created, versionName, uriName, injectionName, bsigsName, sig0Name}
+use Rattle.stream.specs.Signatures.{injectionScan, idText, timeText, isInjection, bsigsScan, keyText, blockSizeText, isBsigs, sig0Scan, createdText, namesText, headSignatureText, isSig0, splitNames, listedFields, isNameList, responseStatus, created, versionName, uriName, injectionName, bsigsName, sig0Name}
 use Rattle.stream.specs.Signing.{signedFields, joined}
-use Rattle.stream.specs.Template.{Scanned, kept, nth}
+use Rattle.stream.specs.Template.{Scanned, nth}
 
 -- "at the first CR LF CR LF, or refused with 3 when 8,192 bytes have come without it"
 unfoldable pub endsHead : List ℕ → Bool
@@ -58,27 +58,27 @@ unfoldable pub statusDigits : Head → List ℕ
 statusDigits h = statusOf (h .statusLine)
 
 unfoldable pub injectionId : Head → List ℕ
-injectionId h = kept 0 (h .injection)
+injectionId h = idText (h .injection)
 
 -- `ts`, in seconds
 unfoldable pub injectionTime : Head → ℕ
-injectionTime h = decimalValue (kept 1 (h .injection))
+injectionTime h = decimalValue (timeText (h .injection))
 
 -- N
 unfoldable pub blockSize : Head → ℕ
-blockSize h = decimalValue (kept 1 (h .bsigs))
+blockSize h = decimalValue (blockSizeText (h .bsigs))
 
 unfoldable pub blockKey : Head → List ℕ
-blockKey h = bytesOf 32 (kept 0 (h .bsigs))
+blockKey h = bytesOf 32 (keyText (h .bsigs))
 
 unfoldable pub headKey : Head → List ℕ
-headKey h = bytesOf 32 (kept 0 (h .sig0))
+headKey h = bytesOf 32 (keyText (h .sig0))
 
 unfoldable pub listedNames : Head → List (List ℕ)
-listedNames h = splitNames (kept 2 (h .sig0))
+listedNames h = splitNames (namesText (h .sig0))
 
 unfoldable pub headSignature : Head → List ℕ
-headSignature h = bytesOf 64 (kept 3 (h .sig0))
+headSignature h = bytesOf 64 (headSignatureText (h .sig0))
 
 -- the fields whose values are handed out: "for fields in the signed list only"
 unfoldable pub signedOf : Head → List Field
@@ -89,7 +89,7 @@ unfoldable pub signingString : Head → List ℕ
 signingString h =
     joined
     (record { name = responseStatus; value = statusDigits h }
-    ∷ record { name = created; value = kept 1 (h .sig0) }
+    ∷ record { name = created; value = createdText (h .sig0) }
     ∷ signedOf h)
 
 -- the number of the record that trusts the key of `X-Ouinet-Sig0` at the time `ts`
@@ -98,9 +98,17 @@ trustedBy ring h = found (headKey h) (injectionTime h) ring
 
 -- ---- the rules of a head
 
--- the statuses of paper 01
+-- "Status 200, 301, 302 or 307"
+abbrev pub statuses : List (List ℕ)
+statuses = octets "200" ∷ octets "301" ∷ octets "302" ∷ octets "307" ∷ []
+
+abbrev pub isOne : List (List ℕ) → List ℕ → Bool
+isOne [] d = false
+isOne (s ∷ []) d = same d s
+isOne (s ∷ t ∷ ss) d = same d s || isOne (t ∷ ss) d
+
 abbrev pub isStatus : List ℕ → Bool
-isStatus d = same d (octets "200") || (same d (octets "301") || (same d (octets "302") || same d (octets "307")))
+isStatus d = isOne statuses d
 
 -- "All of 3 is tested first, then 4 and 5 in the order listed"
 unfoldable pub textRules : List ℕ → Head → List Rule

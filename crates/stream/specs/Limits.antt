@@ -25,6 +25,10 @@ timeDigits = 12
 abbrev pub blockLimit : ℕ
 blockLimit = 65_536
 
+-- the most digits of a block size: 65,536 has five
+abbrev pub blockDigits : ℕ
+blockDigits = 5
+
 -- a chunk line without its end is refused at this many bytes
 abbrev pub lineLimit : ℕ
 lineLimit = 128

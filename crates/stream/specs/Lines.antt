@@ -1,13 +1,13 @@
 -- Lines that CR LF ends: field lines and the status line (paper 01, "The head"; RFC 9112, sections 2.1, 4 and 5).
 -- Assumes nothing.
 use mathlib.Core.Bool.{Bool, true, false, _&&_}
-use mathlib.Core.List.{List, [], _∷_, _++_, map, reverse}
+use mathlib.Core.List.{List, [], _∷_, map, reverse}
 use Prim.Native.Nat.{ℕ, _-_}
 use lib.Dec.{eqb, leb}
 use lib.ListN.{length, drop}
 use Rattle.octets.specs.Octets.{octets}
 use Rattle.stream.specs.Bytes.{same, isDigit, isTchar, isText, isBlank}
-use Rattle.stream.specs.Template.{Part, text, bytes, Scanned, scan, isLike, kept, past}
+use Rattle.stream.specs.Template.{text, bytes, Scanned, scan, isLike, kept, past}
 
 abbrev pub crlf : List ℕ
 crlf = 13 ∷ 10 ∷ []

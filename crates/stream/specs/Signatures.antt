@@ -8,7 +8,7 @@ use Rattle.octets.specs.Octets.{octets}
 use Rattle.base64.specs.Base64.{isText as isBase64}
 use Rattle.stream.specs.Bytes.{between, isDigit, isIdByte, isQuoted, sameName}
 use Rattle.stream.specs.Fields.{among, isDoubled, hasField}
-use Rattle.stream.specs.Limits.{idLimit, timeDigits, blockLimit, nameLimit}
+use Rattle.stream.specs.Limits.{idLimit, timeDigits, blockLimit, blockDigits, nameLimit}
 use Rattle.stream.specs.Lines.{Field, inFront}
 use Rattle.stream.specs.Numbers.{isDecimal, decimalValue}
 use Rattle.stream.specs.Template.{Part, text, bytes, gap, Scanned, scan, isLike, kept, nth}
@@ -18,22 +18,36 @@ use Rattle.stream.specs.Template.{Part, text, bytes, gap, Scanned, scan,
 unfoldable pub injectionScan : List ℕ → Scanned
 injectionScan l = scan (text (octets "id=") ∷ bytes isIdByte ∷ text (octets ",ts=") ∷ bytes isDigit ∷ []) l
 
+-- its parameters: the id, and `ts`
+abbrev pub idText : Scanned → List ℕ
+idText s = kept 0 s
+
+abbrev pub timeText : Scanned → List ℕ
+timeText s = kept 1 s
+
 unfoldable pub isInjection : Scanned → Bool
-isInjection s = isLike s && (between 1 idLimit (length (kept 0 s)) && isDecimal timeDigits (kept 1 s))
+isInjection s = isLike s && (between 1 idLimit (length (idText s)) && isDecimal timeDigits (timeText s))
 
 -- ---- the two signature fields: "spaces and tabs may follow a comma between parameters"
 
--- `keyId` and `algorithm`, with which both begin; the key is kept
+-- `keyId` and `algorithm`, with which both begin; the key is kept, as the first of both
 abbrev pub keyParts : List Part
 keyParts = text (octets "keyId=\"ed25519=") ∷ bytes isQuoted ∷ text (octets "\",") ∷ gap ∷ text (octets "algorithm=\"hs2019\",") ∷ gap ∷ []
+
+abbrev pub keyText : Scanned → List ℕ
+keyText s = kept 0 s
 
 -- `X-Ouinet-BSigs`: the key and the block size are kept
 unfoldable pub bsigsScan : List ℕ → Scanned
 bsigsScan l = scan (keyParts ++ text (octets "size=") ∷ bytes isDigit ∷ []) l
 
+abbrev pub blockSizeText : Scanned → List ℕ
+blockSizeText s = kept 1 s
+
 -- "K is 44 characters for 32 bytes"; "N from 1 to 65,536 without leading zero"
 unfoldable pub isBsigs : Scanned → Bool
-isBsigs s = isLike s && (isBase64 32 (kept 0 s) && (isDecimal 5 (kept 1 s) && between 1 blockLimit (decimalValue (kept 1 s))))
+isBsigs s =
+    isLike s && (isBase64 32 (keyText s) && (isDecimal blockDigits (blockSizeText s) && between 1 blockLimit (decimalValue (blockSizeText s))))
 
 -- `X-Ouinet-Sig0`: the key, `created`, the listed names and the signature are kept
 unfoldable pub sig0Scan : List ℕ → Scanned
@@ -54,9 +68,18 @@ sig0Scan l =
     ∷ [])
     l
 
+abbrev pub createdText : Scanned → List ℕ
+createdText s = kept 1 s
+
+abbrev pub namesText : Scanned → List ℕ
+namesText s = kept 2 s
+
+abbrev pub headSignatureText : Scanned → List ℕ
+headSignatureText s = kept 3 s
+
 -- "digits as `ts`"; "a signature 88 for 64"
 unfoldable pub isSig0 : Scanned → Bool
-isSig0 s = isLike s && (isBase64 32 (kept 0 s) && (isDecimal timeDigits (kept 1 s) && isBase64 64 (kept 3 s)))
+isSig0 s = isLike s && (isBase64 32 (keyText s) && (isDecimal timeDigits (createdText s) && isBase64 64 (headSignatureText s)))
 
 -- ---- `headers`: "names with one space between"
 

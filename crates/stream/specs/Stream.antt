@@ -1,7 +1,7 @@
 -- The stream as a row of sections, and its plain reading (paper 01, "The plain reading"): head, then chunk line, data and
 -- data end by turns, after the 0 line the trailer. Assumes nothing.
 use mathlib.Core.Bool.{Bool, true, false}
-use mathlib.Core.List.{List, [], _∷_}
+use mathlib.Core.List.{List, []}
 use Prim.Native.Nat.{ℕ, zero, suc, _+_}
 use lib.Dec.{eqb, leb}
 use lib.ListN.{length}
@@ -15,11 +15,11 @@ use Rattle.stream.specs.Numbers.{decimalValue}
 use Rattle.stream.specs.Ring.{Ring, numberOf}
 use Rattle.stream.specs.Trailer.{isWholeTrailer, isTrailer}
 
--- what the head fixes for all that comes after it: the id, N, and the number of the key's record
+-- what the head fixes for all that comes after it: the id, N, and the number of the key's record in the ring
 pub record Show : Type 0 where
   pub id : List ℕ
   pub size : ℕ
-  pub key : ℕ
+  pub keyNumber : ℕ
 
 -- what came before a block: how many blocks, and the hash of the last of them, nothing where there is none
 pub record Past : Type 0 where
@@ -70,10 +70,10 @@ announced s p total (suc n) = blockData s p (suc n)
 
 -- "A good head gives question: signing string, Sig0's signature, the record found"; a yes gives *head accepted*
 unfoldable pub showOf : Ring → Head → Show
-showOf ring h = record { id = injectionId h; size = blockSize h; key = numberOf (trustedBy ring h) }
+showOf ring h = record { id = injectionId h; size = blockSize h; keyNumber = numberOf (trustedBy ring h) }
 
 unfoldable pub headQuestion : Ring → Head → Question
-headQuestion ring h = record { message = signingString h; signature = headSignature h; key = numberOf (trustedBy ring h) }
+headQuestion ring h = record { message = signingString h; signature = headSignature h; keyNumber = numberOf (trustedBy ring h) }
 
 unfoldable pub acceptHead : Ring → Head → Says
 acceptHead ring h =
@@ -103,7 +103,7 @@ blockQuestion s p b l =
     record {
       message = blockMessage (s .id) (blockOffset s p) (chained (p .hash) b);
       signature = lineSignature l;
-      key = s .key;
+      keyNumber = s .keyNumber;
     }
 
 unfoldable pub acceptBlock : Show → Past → List ℕ → List ℕ → Says
