@@ -1,0 +1,105 @@
+-- A table that is filled from its front, entry after entry. Assumes nothing.
+use mathlib.Core.Path.{_≡_, refl, sym, ap, _∙_}
+use mathlib.Core.Bool.{Bool, true, false}
+use mathlib.Core.List.{List, [], _∷_, _++_}
+use Prim.Native.Nat.{ℕ, zero, suc, _+_, _-_, _≤_, _<_, min}
+use native.Mathlib.Nat.{add-zero, zero-add}
+use native.Mathlib.Numerals.{add-one}
+use native.Mathlib.Omega.{arith}
+use borrow.Author.Tests.{eqb-true, eqb-false}
+use lib.Dec.{eqb}
+use lib.ListN.{length, getD, set, replicate, take, drop, length-take, length-drop, take-append-drop}
+use lib.Seq.{getD-set-same, getD-set-other, take-append-le, drop-append-le}
+use Rattle.fields.specs.Answers.{answer, Within, ReadsField}
+use Rattle.fields.specs.declared.line.FieldLine.{FieldLine}
+use Rattle.fields.specs.Table.{partOf, noEntry, entryField, fieldsFrom, fieldsIn}
+use Rattle.fields.specs.declared.table.Entry.{Entry}
+use Rattle.fields.specs.declared.table.Fields.{Fields}
+use Rattle.fields.proofs.TableLaws.{part-shift}
+
+-- ---- the fields, where one entry more is set
+
+pub from-length : (text : List ℕ) (es : List Entry) (i k : ℕ) → length (fieldsFrom text es i k) ≡ k
+unfolding fieldsFrom
+from-length text es i zero = refl
+from-length text es i (suc k) = ap suc (from-length text es (i + 1) k)
+
+-- what is set past them does not change them
+from-set : (text : List ℕ) (es : List Entry) (e : Entry) (p i k : ℕ) → i + k ≤ p → fieldsFrom text (set es p e) i k ≡ fieldsFrom text es i k
+unfolding fieldsFrom
+from-set text es e p i zero h = refl
+from-set text es e p i (suc k) h = rw (getD-set-other es p i e noEntry (λ j. omega arith), from-set text es e p (i + 1) k (omega arith))
+
+from-last : (text : List ℕ) (es : List Entry) (i k : ℕ) → fieldsFrom text es i (suc k) ≡ fieldsFrom text es i k ++ (entryField text (getD es (i + k) noEntry) ∷ [])
+unfolding fieldsFrom
+from-last text es i zero = rw (add-zero i)
+from-last text es i (suc k) =
+    let e : i + 1 + k ≡ i + suc k = omega arith in
+    rw (from-last text es (i + 1) k, e)
+
+pub from-more : (text : List ℕ) (es : List Entry) (e : Entry) (k : ℕ) → k < length es → fieldsFrom text (set es k e) 0 (k + 1) ≡ fieldsFrom text es 0 k ++ (entryField text e ∷ [])
+from-more text es e k h = rw (add-one k, from-last text (set es k e) 0 k, from-set text es e k 0 k (omega arith), zero-add k, getD-set-same es k e noEntry h)
+
+pub in-from : (text : List ℕ) (f : Fields) → f .count ≤ 64 → fieldsIn text f ≡ fieldsFrom text (f .entries) 0 (f .count)
+unfolding fieldsIn
+in-from text f h =
+    let e : min (f .count) 64 ≡ f .count = omega arith in
+    rw e
+
+-- ---- entries within a text
+
+abbrev pub AllWithin : ℕ → List Entry → Type 0
+AllWithin size es = (j : ℕ) → Within size (getD es j noEntry)
+
+none-within : (size : ℕ) → Within size noEntry
+none-within size = record { name-ordered = omega arith; name-within = omega arith; value-ordered = omega arith; value-within = omega arith }
+
+pub empty-within : (size n : ℕ) (e : Entry) → e ≡ noEntry → AllWithin size (replicate n e)
+empty-within size zero e h j = none-within size
+empty-within size (suc n) e h zero = rw h (none-within size)
+empty-within size (suc n) e h (suc j) = empty-within size n e h j
+
+pub set-within : (size : ℕ) (es : List Entry) (k : ℕ) (e : Entry) → k < length es → AllWithin size es → Within size e → AllWithin size (set es k e)
+set-within size es k e h w x j = go (eqb j k) refl
+  where
+    go : (t : Bool) → eqb j k ≡ t → Within size (getD (set es k e) j noEntry)
+    go true q = rw (eqb-true j k q, getD-set-same es k e noEntry h) x
+    go false q = rw (getD-set-other es k j e noEntry (eqb-false j k q)) (w j)
+
+-- ---- a line's entry, moved to its place in the text
+
+abbrev pub moved : ℕ → Entry → Entry
+moved i e = record { «name_start» = i + e .«name_start»; «name_end» = i + e .«name_end»; «value_start» = i + e .«value_start»; «value_end» = i + e .«value_end» }
+
+part-front : (l : List ℕ) (m a b : ℕ) → a ≤ b → b ≤ length (take m l) → partOf (take m l) a b ≡ partOf l a b
+unfolding partOf
+part-front l m a b h k =
+    let d = drop-append-le a (take m l) (drop m l) (omega arith) in
+    let t = take-append-le (b - a) (drop a (take m l)) (drop m l) (omega (arith, length-drop a (take m l))) in
+    sym t ∙ ap (take (b - a)) (sym d) ∙ ap (λ (x : List ℕ). take (b - a) (drop a x)) (take-append-drop m l)
+
+part-moved : (text : List ℕ) (i n a b : ℕ) → a ≤ b → b ≤ length (partOf text i n) → partOf (partOf text i n) a b ≡ partOf text (i + a) (i + b)
+unfolding partOf
+part-moved text i n a b h k = part-front (drop i text) (n - i) a b h k ∙ sym (part-shift text i a b)
+
+part-length : (text : List ℕ) (i n : ℕ) → n ≤ length text → length (partOf text i n) ≡ n - i
+unfolding partOf
+part-length text i n k = omega (arith, length-take (n - i) (drop i text), length-drop i text)
+
+pub moved-field : (text : List ℕ) (i n : ℕ) (e : Entry) → Within (length (partOf text i n)) e → entryField (partOf text i n) e ≡ entryField text (moved i e)
+unfolding entryField
+moved-field text i n e w = rw (part-moved text i n (e .«name_start») (e .«name_end») (w .name-ordered) (w .name-within), part-moved text i n (e .«value_start») (e .«value_end») (w .value-ordered) (w .value-within))
+
+pub reads-moved : (text : List ℕ) (i n : ℕ) (r : FieldLine) → i ≤ n → n ≤ length text → ReadsField (partOf text i n) (partOf text i n) r → ReadsField text (partOf text i n) (record { good = r .good; entry = moved i (r .entry) })
+reads-moved text i n r h k x =
+    let w = x .within in
+    let l = part-length text i n k in
+    record {
+      meaning = ap (answer (r .good)) (sym (moved-field text i n (r .entry) w)) ∙ x .meaning;
+      within = record {
+        name-ordered = omega (arith, w .name-ordered);
+        name-within = omega (arith, w .name-within);
+        value-ordered = omega (arith, w .value-ordered);
+        value-within = omega (arith, w .value-within);
+      };
+    }

@@ -1,0 +1,35 @@
+-- What a table of fields says of the text that it was made from: the bytes at its places. A place past the text's end, or
+-- a start after its end, stands for nothing, so a table of any numbers has fields. Assumes nothing.
+use mathlib.Core.List.{List, [], _∷_}
+use Prim.Native.Nat.{ℕ, zero, suc, _+_, _-_, min}
+use lib.ListN.{getD, take, drop}
+use Rattle.stream.specs.Limits.{fieldLimit}
+use Rattle.stream.specs.Lines.{Field}
+use Rattle.fields.specs.declared.table.Entry.{Entry}
+use Rattle.fields.specs.declared.table.Fields.{Fields}
+
+-- the text from start up to end, as far as it goes
+unfoldable pub partOf : List ℕ → ℕ → ℕ → List ℕ
+partOf text start end = take (end - start) (drop start text)
+
+abbrev pub entryName : List ℕ → Entry → List ℕ
+entryName text e = partOf text (e .«name_start») (e .«name_end»)
+
+abbrev pub entryValue : List ℕ → Entry → List ℕ
+entryValue text e = partOf text (e .«value_start») (e .«value_end»)
+
+unfoldable pub entryField : List ℕ → Entry → Field
+entryField text e = record { name = entryName text e; value = entryValue text e }
+
+-- past the table's end an entry stands for no bytes
+abbrev pub noEntry : Entry
+noEntry = record { «name_start» = 0; «name_end» = 0; «value_start» = 0; «value_end» = 0 }
+
+-- the fields of k entries, from entry i on
+unfoldable pub fieldsFrom : List ℕ → List Entry → ℕ → ℕ → List Field
+fieldsFrom text es i zero = []
+fieldsFrom text es i (suc k) = entryField text (getD es i noEntry) ∷ fieldsFrom text es (i + 1) k
+
+-- the fields of the first `count` entries, or of all if there are fewer
+unfoldable pub fieldsIn : List ℕ → Fields → List Field
+fieldsIn text f = fieldsFrom text (f .entries) 0 (min (f .count) fieldLimit)
