@@ -1,0 +1,8 @@
+pub mod PartLaws
+pub mod PadLaws
+pub mod InjectionLaws
+pub mod BsigsLaws
+pub mod HeadSigLaws
+pub mod SpanLaws
+pub mod NameListLaws
+pub mod Answers

@@ -1,0 +1,6 @@
+pub mod Places
+pub mod Parts
+pub mod Injection
+pub mod BlockSigs
+pub mod HeadSig
+pub mod NameList

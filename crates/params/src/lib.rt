@@ -1,0 +1,20 @@
+// The values of the fields `X-Ouinet-Injection`, `X-Ouinet-BSigs` and `X-Ouinet-Sig0`, and the list of signed names.
+mod bsigs; // a key and the size of a block
+mod injection; // an id and a time
+mod limits; // the limits of these values
+mod names; // the list of signed names
+mod parts; // a value gone through part by part
+mod sig0; // a key, a time, the signed names and a signature
+
+pub use bsigs::Bsigs;
+pub use bsigs::read_bsigs;
+pub use injection::Injection;
+pub use injection::read_injection;
+pub use limits::NAME_LIMIT;
+pub use names::Names;
+pub use names::NamesRead;
+pub use names::is_doubled;
+pub use names::name_at;
+pub use names::read_names;
+pub use sig0::Sig0;
+pub use sig0::read_sig0;
