@@ -1,0 +1,78 @@
+-- What a caller learns from the answer to a line: which rule is broken, or that all hold and what they say of the line.
+-- Assumes nothing.
+use mathlib.Core.Bool.{Bool, true, false, _||_}
+use mathlib.Core.List.{List}
+use mathlib.Core.Path.{_≡_, refl, sym, ap, _∙_}
+use Prim.Native.Nat.{ℕ, zero, suc, _+_, _≤_}
+use native.Mathlib.Omega.{arith}
+use borrow.Author.Tests.{leb-true}
+use lib.Dec.{eqb, leb}
+use Rattle.octets.specs.Choice.{pick}
+use Rattle.stream.proofs.RulesHold.{rules-hold}
+use Rattle.stream.proofs.Truth.{left-holds, right-holds}
+use Rattle.stream.specs.Blocks.{isChunkLine, carriesSignature, chunkSize, lineSignature, sameBool, lineRules, lineFault}
+use Rattle.stream.specs.Limits.{bodyLimit}
+use Rattle.chunk.specs.Judging.{zeros, signatureOf, goodLine, unlessFault, lineJudged}
+use Rattle.chunk.specs.declared.judging.Line.{Line}
+use Rattle.chunk.specs.declared.judging.LineAnswer.the-variants.{Refused, Good}
+
+-- a good line, by the size that it announces and the signature that it carries
+pub record Accepted (N : ℕ) (due full : Bool) (sofar : ℕ) (l : List ℕ) (size : ℕ) (signature : List ℕ) : Type 0 where
+  pub kept : lineFault N due full sofar l ≡ 0
+  pub text : isChunkLine l ≡ true
+  pub announced : size ≡ chunkSize l
+  pub most : size ≤ N
+  pub whole : full || eqb size 0 ≡ true
+  pub body : sofar + size ≤ bodyLimit
+  pub signed : carriesSignature l ≡ due
+  pub carried : signature ≡ pick due (lineSignature l) zeros
+
+same-bool : (a b : Bool) → sameBool a b ≡ true → b ≡ a
+same-bool true b e = e
+same-bool false true e = sym e
+same-bool false false e = refl
+
+-- no line is both
+answers-refused : (n m : ℕ) (size : ℕ) (s : List ℕ) → unlessFault m (goodLine size s) .answer ≡ Refused n → (m ≡ n) × (n ≡ 0 → ⊥)
+answers-refused n zero size s e = let z : _≡_ {A = ℕ} 0 1 = cc in absurd (omega arith)
+answers-refused n (suc m) size s e = let w : suc m ≡ n = cc in (w, λ h. omega arith)
+
+answers-good : (n m : ℕ) (size : ℕ) (s : List ℕ) → unlessFault m (goodLine size s) .answer ≡ Good n → (m ≡ 0) × (n ≡ size)
+answers-good n zero size s e = (refl, cc)
+answers-good n (suc m) size s e = let z : _≡_ {A = ℕ} 0 1 = cc in absurd (omega arith)
+
+module _ (N : ℕ) (due full : Bool) (sofar : ℕ) (l : List ℕ) {line : Line} (said : line ≡ lineJudged N due full sofar l) where
+  abbrev fault : ℕ
+  fault = lineFault N due full sofar l
+
+  said-answer : line .answer ≡ unlessFault fault (goodLine (chunkSize l) (signatureOf l)) .answer
+  unfolding lineJudged
+  said-answer = ap (λ (x : Line). x .answer) said
+
+  pub line-refused : (n : ℕ) → line .answer ≡ Refused n → (fault ≡ n) × (n ≡ 0 → ⊥)
+  line-refused n e = answers-refused n fault (chunkSize l) (signatureOf l) (sym said-answer ∙ e)
+
+  module _ (n : ℕ) (e : line .answer ≡ Good n) where
+    all-kept : (fault ≡ 0) × (n ≡ chunkSize l)
+    all-kept = answers-good n fault (chunkSize l) (signatureOf l) (sym said-answer ∙ e)
+
+    said-signature : line .signature ≡ signatureOf l
+    unfolding lineJudged
+    said-signature = ap (λ (x : Line). x .signature) said ∙ rw (all-kept .0)
+
+    pub line-accepted : Accepted N due full sofar l n (line .signature)
+    unfolding lineFault lineRules
+    line-accepted =
+        let (k, size) = all-kept in
+        let (r6, (r8, (r7, (r9, rest)))) = rules-hold (lineRules N due full sofar l) refl k in
+        let s = same-bool due (carriesSignature l) r8 in
+        record {
+          kept = k;
+          text = r6;
+          announced = size;
+          most = rw size (leb-true _ _ (left-holds (leb (chunkSize l) N) (full || eqb (chunkSize l) 0) r7));
+          whole = rw size (right-holds (leb (chunkSize l) N) (full || eqb (chunkSize l) 0) r7);
+          body = rw size (leb-true _ _ r9);
+          signed = s;
+          carried = said-signature ∙ rw s;
+        }

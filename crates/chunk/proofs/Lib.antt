@@ -1,0 +1,7 @@
+pub mod PlaceLaws
+pub mod ChainLaws
+pub mod ReadLaws
+pub mod RuleLaws
+pub mod AnswerLaws
+pub mod WritingLaws
+pub mod MessageLaws
