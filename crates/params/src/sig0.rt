@@ -4,7 +4,7 @@ use crate::parts;
 use crate::parts::Run;
 use number::Number;
 use text::Class;
-ghost use mathlib.Core.List.{[], _∷_};
+ghost use mathlib.Core.List.{[], _∷_, map};
 ghost use mathlib.Core.Path.{_≡_};
 ghost use Rattle.stream.specs.Signatures.{sig0Scan};
 ghost use Rattle.stream.specs.Template.{parts};
@@ -72,9 +72,10 @@ fn no_sig0() -> Sig0
     }
 }
 
+// A key, a time and a signature, each by the bytes of its run; of the names only the run is taken.
 fn judge(value: &[u8], key: Run, created: Run, names: Run, signature: Run) -> Sig0
     requires { ⌜ Inside (now value) key × Inside (now value) created × Inside (now value) names × Inside (now value) signature ⌝ }
-    ensures { λ r. ⌜ ReadsSig0 (now (value .entry)) (parts (runBytes (now (value .entry)) key ∷ runBytes (now (value .entry)) created ∷ runBytes (now (value .entry)) names ∷ runBytes (now (value .entry)) signature ∷ [])) r ⌝ }
+    ensures { λ r. ⌜ ReadsSig0 (now (value .entry)) (parts (map (runBytes (now (value .entry))) (key ∷ created ∷ names ∷ signature ∷ []))) r ⌝ }
 {
     let mut key_bytes = [0u8; 32];
     if !base64::key(parts::bytes_of(value, key), &mut key_bytes) {
