@@ -1,6 +1,6 @@
 # make run    the main job on its built-in example
 # make test   proves every crate from nothing and runs all tests: the gate
-# make bench  speed, as ratios to an ordinary Rust program
+# make bench  speed: SHA-512 beside an ordinary Rust one, and the judgement of a large head
 .PHONY: run test bench
 
 run:
@@ -15,3 +15,4 @@ test:
 bench:
 	@scripts/setup
 	@bench/hash.sh
+	@bench/head.sh
