@@ -1,0 +1,57 @@
+-- A text that was read without fault: the rules hold, and the places stand for what the head says. Assumes nothing.
+use mathlib.Core.Bool.{true}
+use mathlib.Core.List.{List}
+use mathlib.Core.Path.{_≡_, refl, sym, ap, _∙_}
+use Prim.Native.Nat.{ℕ}
+use Rattle.stream.specs.Head.{headOf, textRules, statusDigits, listedNames}
+use Rattle.stream.specs.Lines.{isStatusLine, areFieldLines}
+use Rattle.stream.specs.Signatures.{isInjection, isBsigs, isSig0, createdText, isNameList}
+use Rattle.stream.proofs.RulesHold.{AllHold, rules-hold}
+use Rattle.fields.specs.Table.{partOf}
+use Rattle.params.specs.NameList.{namesIn}
+use Rattle.params.proofs.Answers.{sig0-created, sig0-names}
+use Rattle.head.specs.Reading.{Reads}
+use Rattle.head.specs.declared.whole.HeadRead.{HeadRead}
+use Rattle.head.proofs.FirstLine.{status-place}
+
+module _ (text : List ℕ) (r : HeadRead) (x : Reads text r) (z : r .fault ≡ 0) where
+  pub rules-kept : AllHold (textRules text (headOf text))
+  unfolding textRules
+  rules-kept = rules-hold (textRules text (headOf text)) refl (sym (x .fault) ∙ z)
+
+  pub status-good : isStatusLine (headOf text .statusLine) ≡ true
+  unfolding textRules
+  status-good = let rules = rules-kept in search
+
+  pub lines-good : areFieldLines (headOf text .fieldLines) ≡ true
+  unfolding textRules
+  lines-good = let rules = rules-kept in search
+
+  pub injection-good : isInjection (headOf text .injection) ≡ true
+  unfolding textRules
+  injection-good = let rules = rules-kept in search
+
+  pub bsigs-good : isBsigs (headOf text .bsigs) ≡ true
+  unfolding textRules
+  bsigs-good = let rules = rules-kept in search
+
+  pub sig0-good : isSig0 (headOf text .sig0) ≡ true
+  unfolding textRules
+  sig0-good = let rules = rules-kept in search
+
+  pub names-good : isNameList (headOf text .fields) (listedNames (headOf text)) ≡ true
+  unfolding textRules
+  names-good = let rules = rules-kept in search
+
+  -- ---- the texts at the places
+
+  pub digits-there : partOf text 9 12 ≡ statusDigits (headOf text)
+  digits-there = sym (status-place text status-good)
+
+  pub created-there : partOf text (r .signed .sig0 .«created_start») (r .signed .sig0 .«created_end») ≡ createdText (headOf text .sig0)
+  unfolding partOf
+  created-there = sig0-created (x .says z .sig0) sig0-good
+
+  pub names-there : (list : List ℕ) → list ≡ partOf text (r .signed .sig0 .«names_start») (r .signed .sig0 .«names_end») → namesIn list (r .signed .names) ≡ listedNames (headOf text)
+  unfolding partOf
+  names-there list e = ap (λ (l : List ℕ). namesIn l (r .signed .names)) (e ∙ sig0-names (x .says z .sig0) sig0-good) ∙ x .says z .names
