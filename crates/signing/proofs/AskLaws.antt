@@ -1,0 +1,69 @@
+-- The question of a head that breaks no rule. Assumes nothing.
+use mathlib.Core.List.{List}
+use mathlib.Core.Path.{_≡_, ap, _∙_}
+use Prim.Native.Nat.{ℕ, _≤_}
+use native.Mathlib.Nat.{zero-add, le-trans}
+use lib.ListN.{length}
+use Rattle.stream.specs.Head.{headOf, blockSize, injectionId, headSignature, signedOf, signingString}
+use Rattle.stream.proofs.SigningSize.{signing-fits′}
+use Rattle.fields.specs.Table.{partOf, fieldsIn}
+use Rattle.params.specs.NameList.{namesIn}
+use Rattle.params.specs.declared.bsigs.Bsigs.{Bsigs}
+use Rattle.params.specs.declared.injection.Injection.{Injection}
+use Rattle.params.proofs.Answers.{injection-is, bsigs-is, sig0-signature}
+use Rattle.head.specs.Reading.{Reads}
+use Rattle.head.specs.declared.whole.HeadRead.{HeadRead}
+use Rattle.head.proofs.ContentLaws.{status-good, lines-good, injection-good, bsigs-good, sig0-good, names-good, digits-there, created-there, names-there}
+use Rattle.signing.specs.Judgement.{judged, asked}
+use Rattle.signing.specs.Writing.{placed, over, wrote, stringOf}
+use Rattle.signing.specs.declared.judging.HeadAnswer.the-variants.{Asks}
+use Rattle.signing.proofs.PlacedLaws.{next-is, bytes-are}
+
+module _ (text : List ℕ) (r : HeadRead) (x : Reads text r) (z : r .fault ≡ 0) where
+  -- the texts that the string is made of
+  module _ (list seconds digits : List ℕ) (l : list ≡ partOf text (r .signed .sig0 .«names_start») (r .signed .sig0 .«names_end»))
+      (s : seconds ≡ partOf text (r .signed .sig0 .«created_start») (r .signed .sig0 .«created_end»)) (d : digits ≡ partOf text 9 12) where
+    abbrev string : List ℕ
+    string = stringOf (fieldsIn text (r .fields)) (namesIn list (r .signed .names)) digits seconds
+
+    string-there : string ≡ signingString (headOf text)
+    unfolding stringOf signingString signedOf
+    string-there = rw (names-there text r x z list l, x .says z .fields, d ∙ digits-there text r x z, s ∙ created-there text r x z)
+
+    string-fits : length string ≤ length text
+    string-fits =
+        rw string-there
+        (signing-fits′ text (status-good text r x z) (lines-good text r x z) (sig0-good text r x z) (names-good text r x z))
+
+    pub string-room : (question : List ℕ) → length text ≤ length question → length string ≤ length question
+    string-room question h = le-trans string-fits h
+
+    -- the length of the string and the buffer, after it was written
+    module _ (question : List ℕ) (n : ℕ) (b : List ℕ) (e : placed n b ≡ wrote question 0 string) where
+      written-length : n ≡ length (signingString (headOf text))
+      written-length = next-is question 0 string n b e ∙ zero-add (length string) ∙ ap length string-there
+
+      pub asked-is : (key : ℕ)
+          → judged
+          (record {
+            answer = Asks (r .status) (r .signed .bsigs .size) key (r .signed .injection .«id_length») n;
+            signature = r .signed .sig0 .signature;
+            id = r .signed .injection .id;
+          })
+          b
+          ≡ asked key (headOf text) question
+      unfolding asked over blockSize injectionId headSignature
+      asked-is key =
+          let i = x .says z .injection ∙ injection-is _ (injection-good text r x z) in
+          let k = x .says z .bsigs ∙ bsigs-is _ (bsigs-good text r x z) in
+          rw (
+            x .says z .status,
+            ap (λ (q : Bsigs). q .size) k,
+            ap (λ (q : Injection). q .«id_length») i,
+            ap (λ (q : Injection). q .id) i,
+            sig0-signature (x .says z .sig0) (sig0-good text r x z),
+            written-length,
+            bytes-are question 0 string n b e,
+            string-there,
+            zero-add (length (signingString (headOf text))),
+          )

@@ -1,0 +1,5 @@
+pub mod PlacedLaws
+pub mod StringLaws
+pub mod TrustLaws
+pub mod AskLaws
+pub mod JudgeLaws

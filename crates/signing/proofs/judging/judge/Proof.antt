@@ -1,0 +1,90 @@
+-- Each way by what is known there. Assumes nothing.
+use mathlib.Core.List.{List}
+use mathlib.Core.Path.{sym, ap, _∙_}
+use Prim.Native.Nat.{ℕ}
+use denote.Ref.{now}
+use Rattle.ring.specs.Keys.{foundOf}
+use Rattle.signing.specs.Judgement.{judged}
+use Rattle.signing.specs.declared.judging.Judged.{Judged}
+use Rattle.signing.proofs.JudgeLaws.{judged-broken, judged-untrusted, judged-short, judged-asked}
+use borrow.Author.Needs.{needs}
+use Rattle.signing.proofs.judging.judge.Statement.{statement}
+use Rattle.signing.proofs.judging.judge.Tie as tie
+
+-- the question as it was lent
+abbrev lent : tie.After-read → List ℕ
+lent c = now (c .before .before .before .args .question)
+
+read-requires : tie.Need-read-requires
+read-requires c κs = search needs
+
+refused-requires : tie.Need-refused-requires
+refused-requires c κs = search needs
+
+returns : tie.Need-returns
+returns c =
+    ap (λ (j : Judged). judged j (lent (c .before .before))) (c .refused .ensures) ∙ judged-broken _ _ _ _ (c .before .before .read .ensures) (c .before .if1 .taken)
+
+trusted-requires : tie.Need-trusted-requires
+trusted-requires c κs = search needs
+
+enum-known-key : tie.Need-enum-known-key
+enum-known-key c = search needs
+
+enum-told : tie.Need-enum-told
+enum-told c = search needs
+
+refused-requires-2 : tie.Need-refused-requires-2
+refused-requires-2 c κs = search needs
+
+returns-2 : tie.Need-returns-2
+returns-2 c =
+    let m = c .before in
+    let t = m .before .before in
+    let e = t .before .before in
+    ap (λ (j : Judged). judged j (lent (e .before))) (c .refused2 .ensures)
+    ∙ judged-untrusted _ _ _ _ (e .before .read .ensures) (e .if1 .left) (sym (ap foundOf (m .enum-told .given .1)) ∙ t .trusted .ensures)
+
+refused-requires-3 : tie.Need-refused-requires-3
+refused-requires-3 c κs = search needs
+
+returns-3 : tie.Need-returns-3
+returns-3 c =
+    let k = c .before .before .before in
+    let t = k .before .before in
+    let e = t .before .before in
+    ap (λ (j : Judged). judged j (lent (e .before))) (c .refused3 .ensures)
+    ∙ judged-short _ _ _ _ (e .before .read .ensures) (e .if1 .left) _ (sym (ap foundOf (k .key .given .1)) ∙ t .trusted .ensures) (c .before .if2 .taken)
+
+ask-requires : tie.Need-ask-requires
+ask-requires c κs = search needs
+
+same-length : tie.Need-same-length
+same-length c = search needs
+
+returns-4 : tie.Need-returns-4
+returns-4 c =
+    let a = c .before .before in
+    let f = a .before .before in
+    let k = f .before .before in
+    let t = k .before .before in
+    let e = t .before .before in
+    a .ask .ensures ∙ judged-asked _ _ _ _ (e .before .read .ensures) (e .if1 .left) _ (sym (ap foundOf (k .key .given .1)) ∙ t .trusted .ensures) (f .if2 .left)
+
+pub judge-spec : {M : Type 1} → statement M
+judge-spec =
+    tie.close
+    (tie.spec
+    read-requires
+    refused-requires
+    returns
+    trusted-requires
+    enum-known-key
+    enum-told
+    refused-requires-2
+    returns-2
+    refused-requires-3
+    returns-3
+    ask-requires
+    same-length
+    returns-4)

@@ -1,0 +1,113 @@
+// The judgement of a head.
+use crate::string;
+use head::HeadRead;
+use head::Signed;
+use ring::Found;
+use ring::KeyRing;
+ghost use mathlib.Core.Option.{none};
+ghost use mathlib.Core.Path.{_≡_};
+ghost use Prim.Native.Nat.{_≤_};
+ghost use lib.ListN.{length};
+ghost use Rattle.octets.specs.Choice.{pick};
+ghost use Rattle.head.specs.Reading.{Reads};
+ghost use Rattle.ring.specs.Keys.{foundOf, ringOf};
+ghost use Rattle.stream.specs.Bytes.{same};
+ghost use Rattle.stream.specs.Head.{headOf};
+ghost use Rattle.stream.specs.Ring.{found};
+ghost use Rattle.signing.specs.Judgement.{asked, headJudged, judged, noneAsked};
+
+// Refused with a number. Or accepted if a signature is good, of the string whose `length` bytes were written: the status, the
+// size of a block, the number of the key's record, and the length of the id.
+pub enum HeadAnswer {
+    Refused(u8),
+    Asks {
+        status: u64,
+        size: usize,
+        key: usize,
+        id_length: usize,
+        length: usize,
+    },
+}
+
+// The first `id_length` bytes of `id` are the id. Where the head is refused, both arrays are zero.
+pub struct Judged {
+    pub answer: HeadAnswer,
+    pub signature: [u8; 64],
+    pub id: [u8; 64],
+}
+
+// The fault of a head; or its question, written from the front of the buffer, which changes nowhere else.
+pub fn judge(text: &[u8], ring: KeyRing, question: &mut [u8]) -> Judged
+    ensures { λ r. ⌜ judged r (now (question .exit)) ≡ headJudged (ringOf ring) (now (text .entry)) (now (question .entry)) ⌝ }
+{
+    let head = head::read(text);
+    let fault = head.fault;
+    if fault != 0 {
+        return refused(fault);
+    }
+    let signed = head.signed;
+    let Found::At(key) = trusted(ring, signed) else {
+        return refused(12);
+    };
+    if question.len() < text.len() {
+        return refused(3);
+    }
+    ask(text, head, key, question)
+}
+
+fn refused(number: u8) -> Judged
+    ensures { λ r. ⌜ r ≡ noneAsked number ⌝ }
+{
+    Judged {
+        answer: HeadAnswer::Refused(number),
+        signature: [0; 64],
+        id: [0; 64],
+    }
+}
+
+// The record that trusts the key of `X-Ouinet-Sig0`, if the key of `X-Ouinet-BSigs` is the same.
+fn trusted(ring: KeyRing, s: Signed) -> Found
+    ensures { λ r. ⌜ foundOf r ≡ pick (same (s .bsigs .key) (s .sig0 .key)) (found (s .sig0 .key) (s .injection .time) (ringOf ring)) none ⌝ }
+{
+    let bsigs = s.bsigs;
+    let sig0 = s.sig0;
+    let injection = s.injection;
+    let blocks = bsigs.key;
+    let key = sig0.key;
+    if !text::same(&blocks, &key) {
+        return Found::Nothing;
+    }
+    ring::find(ring, key, injection.time)
+}
+
+// The question of a head that breaks no rule, with a buffer that has room for it.
+fn ask(text: &[u8], head: HeadRead, key: usize, question: &mut [u8]) -> Judged
+    requires { ⌜ Reads (now text) head ⌝ }
+    requires { ⌜ head .fault ≡ 0 ⌝ }
+    requires { ⌜ length (now text) ≤ length (now question) ⌝ }
+    ensures { λ r. ⌜ judged r (now (question .exit)) ≡ asked key (headOf (now (text .entry))) (now (question .entry)) ⌝ }
+{
+    let table = head.fields;
+    let signed = head.signed;
+    let names = signed.names;
+    let sig0 = signed.sig0;
+    let bsigs = signed.bsigs;
+    let injection = signed.injection;
+    let list = fields::part(text, sig0.names_start, sig0.names_end);
+    let created = fields::part(text, sig0.created_start, sig0.created_end);
+    let digits = fields::part(text, 9, 12);
+    let length = string::put_string(text, table, list, names, digits, created, question);
+    let signature = sig0.signature;
+    let id = injection.id;
+    Judged {
+        answer: HeadAnswer::Asks {
+            status: head.status,
+            size: bsigs.size,
+            key,
+            id_length: injection.id_length,
+            length,
+        },
+        signature,
+        id,
+    }
+}

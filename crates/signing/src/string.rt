@@ -1,0 +1,41 @@
+// The signing string: two lines that are no fields, then a line for each listed field.
+use crate::line;
+use fields::Fields;
+use params::Names;
+ghost use mathlib.Core.Path.{_≡_};
+ghost use Prim.Native.Nat.{_+_, _≤_};
+ghost use lib.ListN.{length};
+ghost use Rattle.signing.specs.Writing.{linesIn, placed, stringIn, wrote};
+
+// The fields that the list names after its first two, each on a line of its own.
+fn put_fields(text: &[u8], f: Fields, list: &[u8], n: Names, out: &mut [u8], from: usize) -> usize
+    requires { ⌜ from + length (linesIn (now text) f (now list) n) ≤ length (now out) ⌝ }
+    ensures { λ r. ⌜ placed r (now (out .exit)) ≡ wrote (now (out .entry)) from (linesIn (now (text .entry)) f (now (list .entry)) n) ⌝ }
+{
+    let end = head::count(n);
+    let mut at = from;
+    let mut i = 2;
+    while i < end {
+        let name = head::name(list, n, i);
+        at = line::put_next(out, at, name, head::value_of(text, f, name));
+        i += 1;
+    }
+    at
+}
+
+pub fn put_string(
+    text: &[u8],
+    f: Fields,
+    list: &[u8],
+    n: Names,
+    digits: &[u8],
+    created: &[u8],
+    out: &mut [u8],
+) -> usize
+    requires { ⌜ length (stringIn (now text) f (now list) n (now digits) (now created)) ≤ length (now out) ⌝ }
+    ensures { λ r. ⌜ placed r (now (out .exit)) ≡ wrote (now (out .entry)) 0 (stringIn (now (text .entry)) f (now (list .entry)) n (now (digits .entry)) (now (created .entry))) ⌝ }
+{
+    let second = line::put_line(out, 0, b"(response-status)", digits);
+    let third = line::put_next(out, second, b"(created)", created);
+    put_fields(text, f, list, n, out, third)
+}
