@@ -1,0 +1,32 @@
+-- What the exported function answers. Assumes nothing.
+use mathlib.Core.List.{List, [], _∷_}
+use Prim.Native.Nat.{ℕ}
+use Rattle.octets.specs.Choice.{pick}
+use Rattle.base64.specs.Base64.{isText, bytesOf}
+use Rattle.stream.specs.Ring.{Ring}
+use Rattle.signing.specs.declared.judging.HeadAnswer.{HeadAnswer}
+use Rattle.signing.specs.declared.judging.HeadAnswer.the-variants.{Refused, Asks}
+use Rattle.signing.specs.Judgement.{Judgement, headJudged}
+
+-- The result, and what the lent bytes then are.
+pub record Answer : Type 0 where
+  pub number : ℕ
+  pub question : List ℕ
+
+abbrev pub made : ℕ → List ℕ → Answer
+made n l = record { number = n; question = l }
+
+-- the number of a refusal, 0 where a question is asked
+abbrev pub numberOf : HeadAnswer → ℕ
+numberOf (Refused n) = n
+numberOf (Asks status size key idLength length) = 0
+
+-- a ring of the one key that a text of 44 characters writes
+unfoldable pub oneKey : List ℕ → ℕ → ℕ → Ring
+oneKey text first last = pick (isText 32 text) (record { key = bytesOf 32 text; first = first; last = last } ∷ []) []
+
+abbrev pub told : Judgement → Answer
+told j = made (numberOf (j .answer .answer)) (j .question)
+
+abbrev pub answered : List ℕ → List ℕ → ℕ → ℕ → List ℕ → Answer
+answered text key first last question = told (headJudged (oneKey key first last) text question)
