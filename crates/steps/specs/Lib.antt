@@ -1,0 +1,4 @@
+pub mod Desk
+pub mod Push
+pub mod Run
+pub mod Skip
