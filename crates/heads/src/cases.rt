@@ -9,7 +9,7 @@ use signing::HeadAnswer;
 ghost use Prim.Native.Nat.{_+_, _<_, _≤_};
 ghost use lib.ListN.{length};
 
-pub fn judge_all(input: &[u8]) {
+pub(crate) fn judge_all(input: &[u8]) {
     let ring = keys::three();
     let mut at = 0;
     while at < input.len() {

@@ -19,7 +19,7 @@ pub struct Run {
 }
 
 // Fixed text, and the run of the class that comes after it.
-pub fn run_after(value: &[u8], at: usize, before: &[u8], c: Class) -> Run
+pub(crate) fn run_after(value: &[u8], at: usize, before: &[u8], c: Class) -> Run
     requires { ⌜ at ≤ length (now value) ⌝ }
     ensures { λ r. ⌜ Reads (text (now (before .entry)) ∷ bytes (classOf c) ∷ []) (now (value .entry)) at r ⌝ }
 {
@@ -42,7 +42,7 @@ pub fn run_after(value: &[u8], at: usize, before: &[u8], c: Class) -> Run
 }
 
 // After a run: fixed text, and the spaces and tabs that may follow it.
-pub fn past_mark(value: &[u8], run: Run, mark: &[u8]) -> Run
+pub(crate) fn past_mark(value: &[u8], run: Run, mark: &[u8]) -> Run
     requires { ⌜ Inside (now value) run ⌝ }
     ensures { λ r. ⌜ GoesOn (now (value .entry)) run (now (mark .entry)) r ⌝ }
 {
@@ -77,7 +77,7 @@ pub fn key_part(value: &[u8]) -> Run
 }
 
 // The bytes of a run.
-pub fn bytes_of(value: &[u8], run: Run) -> &[u8]
+pub(crate) fn bytes_of(value: &[u8], run: Run) -> &[u8]
     requires { ⌜ Inside (now value) run ⌝ }
     ensures { λ r. ⌜ now r ≡ runBytes (now (value .entry)) run ⌝ }
 {

@@ -6,7 +6,7 @@ ghost use Prim.Native.Nat.{_+_, _≤_};
 ghost use lib.ListN.{length};
 ghost use Rattle.signing.specs.Writing.{lineOf, placed, wrote};
 
-pub fn put_line(out: &mut [u8], at: usize, name: &[u8], value: &[u8]) -> usize
+pub(crate) fn put_line(out: &mut [u8], at: usize, name: &[u8], value: &[u8]) -> usize
     requires { ⌜ at + (length (now name) + length (now value) + 2) ≤ length (now out) ⌝ }
     ensures { λ r. ⌜ placed r (now (out .exit)) ≡ wrote (now (out .entry)) at (lineOf (now (name .entry)) (now (value .entry))) ⌝ }
 {
@@ -16,7 +16,7 @@ pub fn put_line(out: &mut [u8], at: usize, name: &[u8], value: &[u8]) -> usize
 }
 
 // The same with a line feed in front.
-pub fn put_next(out: &mut [u8], at: usize, name: &[u8], value: &[u8]) -> usize
+pub(crate) fn put_next(out: &mut [u8], at: usize, name: &[u8], value: &[u8]) -> usize
     requires { ⌜ at + (length (now name) + length (now value) + 3) ≤ length (now out) ⌝ }
     ensures { λ r. ⌜ placed r (now (out .exit)) ≡ wrote (now (out .entry)) at (10 ∷ lineOf (now (name .entry)) (now (value .entry))) ⌝ }
 {

@@ -5,7 +5,7 @@ ghost use lib.ListN.{length};
 ghost use Rattle.stream.specs.Bytes.{lowered};
 ghost use Rattle.signing.specs.Writing.{placed, wrote};
 
-pub fn put(out: &mut [u8], at: usize, bytes: &[u8]) -> usize
+pub(crate) fn put(out: &mut [u8], at: usize, bytes: &[u8]) -> usize
     requires { ⌜ at + length (now bytes) ≤ length (now out) ⌝ }
     ensures { λ r. ⌜ placed r (now (out .exit)) ≡ wrote (now (out .entry)) at (now (bytes .entry)) ⌝ }
 {
@@ -17,7 +17,7 @@ pub fn put(out: &mut [u8], at: usize, bytes: &[u8]) -> usize
     at + bytes.len()
 }
 
-pub fn put_lower(out: &mut [u8], at: usize, bytes: &[u8]) -> usize
+pub(crate) fn put_lower(out: &mut [u8], at: usize, bytes: &[u8]) -> usize
     requires { ⌜ at + length (now bytes) ≤ length (now out) ⌝ }
     ensures { λ r. ⌜ placed r (now (out .exit)) ≡ wrote (now (out .entry)) at (lowered (now (bytes .entry))) ⌝ }
 {

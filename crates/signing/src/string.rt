@@ -23,7 +23,7 @@ fn put_fields(text: &[u8], f: Fields, list: &[u8], n: Names, out: &mut [u8], fro
     at
 }
 
-pub fn put_string(
+pub(crate) fn put_string(
     text: &[u8],
     f: Fields,
     list: &[u8],

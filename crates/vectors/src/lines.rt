@@ -2,11 +2,11 @@
 use libc::STDOUT_FILENO;
 ghost use Prim.Native.Nat.{_<_};
 
-pub fn say(text: &[u8]) {
+pub(crate) fn say(text: &[u8]) {
     io::write_all(STDOUT_FILENO, text);
 }
 
-pub fn say_number(n: usize) {
+pub(crate) fn say_number(n: usize) {
     io::print_decimal(STDOUT_FILENO, n as u64);
 }
 
