@@ -1,0 +1,50 @@
+-- A feed (paper 01, "How a sitting goes" and "When the reader says no"). Assumes nothing.
+use mathlib.Core.Bool.{_&&_}
+use mathlib.Core.List.{List}
+use Prim.Native.Nat.{ℕ}
+use lib.Dec.{leb}
+use Rattle.octets.specs.Choice.{pick}
+use Rattle.ring.specs.Keys.{ringOf}
+use Rattle.ring.specs.declared.KeyRing.{KeyRing}
+use Rattle.stream.specs.Limits.{ringLimit}
+use Rattle.stream.specs.Ring.{Ring}
+use Rattle.steps.specs.Desk.{Desk, Next, stop, noSignature}
+use Rattle.steps.specs.Push.{pushFirstLine, pushData, pushDataEnd, pushNextLine, pushTrailer}
+use Rattle.steps.specs.Run.{Fed, more, event, runOf}
+use Rattle.steps.specs.declared.state.Phase.{Phase}
+use Rattle.steps.specs.declared.state.Phase.the-variants as P
+use Rattle.steps.specs.declared.state.Word.the-variants as W
+use Rattle.reader.specs.Call.{Call, call, telling, unchanged, fits, isReading, recalled}
+use Rattle.reader.specs.HeadByte.{pushHead}
+
+-- one byte, by the phase; a feed pushes none where a question is open or the last word is said
+unfoldable pub pushAt : Ring → Phase → Desk → ℕ → Next
+pushAt ring (P.Head have) d x = pushHead ring d have x
+pushAt ring (P.HeadAsked n) d x = stop (W.Refused 1) noSignature d
+pushAt ring (P.FirstLine have) d x = pushFirstLine d have x
+pushAt ring (P.Data have size) d x = pushData d have size x
+pushAt ring (P.DataEnd have size) d x = pushDataEnd d have size x
+pushAt ring (P.NextLine have size) d x = pushNextLine d have size x
+pushAt ring (P.BlockAsked size next) d x = stop (W.Refused 1) noSignature d
+pushAt ring (P.Trailer have total) d x = pushTrailer d have total x
+pushAt ring (P.Closed total) d x = stop (W.Refused 1) noSignature d
+pushAt ring (P.Refused n) d x = stop (W.Refused 1) noSignature d
+
+abbrev pub pushByte : Ring → Desk → ℕ → Next
+pushByte ring d x = pushAt ring (d .reader .phase) d x
+
+-- "takes bytes up to the first event, or all of them"; "with no event the word is more"
+abbrev pub fed : Fed → Call
+fed (more taken d) = telling W.More taken d
+fed (event w signature taken d) = call w taken signature d
+
+unfoldable pub takenFrom : Ring → Desk → List ℕ → Call
+takenFrom ring d piece = fed (runOf (pushByte ring) d 0 piece)
+
+-- 2 where "a hold is shorter" or "a lent ring has over 16 records"; then 1 for a "feed with a question open" or "any call after a
+-- final event"
+unfoldable pub feedOf : KeyRing → Desk → List ℕ → Call
+feedOf ring d piece =
+    pick (fits d && leb (ring .count) ringLimit)
+    (pick (isReading (d .reader .phase)) (takenFrom (ringOf ring) (recalled d) piece) (unchanged 1 d))
+    (unchanged 2 d)

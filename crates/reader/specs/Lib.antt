@@ -1,0 +1,5 @@
+pub mod Call
+pub mod Answer
+pub mod HeadByte
+pub mod Feed
+pub mod Parts

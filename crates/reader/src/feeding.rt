@@ -1,0 +1,104 @@
+// A piece of the stream, however it is cut.
+use crate::head_byte::push_head;
+use crate::outcome::Outcome;
+use crate::outcome::are_roomy;
+use crate::outcome::ended;
+use crate::outcome::is_reading;
+use crate::outcome::recalled;
+use crate::outcome::told;
+use crate::outcome::unchanged;
+use ring::KeyRing;
+use ring::RING_LIMIT;
+use steps::Phase;
+use steps::Reader;
+use steps::Stepped;
+use steps::Word;
+ghost use mathlib.Core.Path.{_≡_};
+ghost use Rattle.ring.specs.Keys.{ringOf};
+ghost use Rattle.steps.specs.Desk.{desk, nextOf};
+ghost use Rattle.reader.specs.Call.{made};
+ghost use Rattle.reader.specs.Feed.{pushByte, takenFrom, feedOf};
+
+// One byte, by the phase. In a phase that takes no bytes nothing changes.
+fn push(
+    r: Reader,
+    head: &mut [u8],
+    block: &mut [u8],
+    question: &mut [u8],
+    ring: KeyRing,
+    x: u8,
+) -> Stepped
+    ensures { λ s. ⌜ nextOf s (now (head .exit)) (now (block .exit)) (now (question .exit)) ≡ pushByte (ringOf ring) (desk r (now (head .entry)) (now (block .entry)) (now (question .entry))) x ⌝ }
+{
+    let phase = r.phase;
+    match phase {
+        Phase::Head(have) => push_head(r, head, question, ring, have, x),
+        Phase::HeadAsked(_) => steps::said(Word::Refused(1), r),
+        Phase::FirstLine(have) => steps::push_first_line(r, have, x),
+        Phase::Data { have, size } => steps::push_data(r, block, have, size, x),
+        Phase::DataEnd { have, size } => steps::push_data_end(r, block, have, size, x),
+        Phase::NextLine { have, size } => steps::push_next_line(r, block, question, have, size, x),
+        Phase::BlockAsked { size: _, next: _ } => steps::said(Word::Refused(1), r),
+        Phase::Trailer { have, total } => steps::push_trailer(r, block, have, total, x),
+        Phase::Closed(_) => steps::said(Word::Refused(1), r),
+        Phase::Refused(_) => steps::said(Word::Refused(1), r),
+    }
+}
+
+// Takes bytes up to the first event, or all. Each turn hands the rest of the piece on to be skipped where nothing can happen in
+// it, and then pushes one byte.
+fn take(
+    r: Reader,
+    head: &mut [u8],
+    block: &mut [u8],
+    question: &mut [u8],
+    ring: KeyRing,
+    piece: &[u8],
+) -> Outcome
+    ensures { λ o. ⌜ made o (now (head .exit)) (now (block .exit)) (now (question .exit)) ≡ takenFrom (ringOf ring) (desk r (now (head .entry)) (now (block .entry)) (now (question .entry))) (now (piece .entry)) ⌝ }
+{
+    let mut state = r;
+    let mut taken = 0;
+    while taken < piece.len() {
+        let passed = steps::skip(state, block, &piece[taken..]);
+        let run = passed.taken;
+        taken += run;
+        let reader = passed.reader;
+        if piece.len() <= taken {
+            return told(Word::More, taken, reader);
+        }
+        let x = piece[taken];
+        let stepped = push(reader, head, block, question, ring, x);
+        taken += 1;
+        let word = stepped.word;
+        state = stepped.reader;
+        if !steps::goes_on(word) {
+            return ended(stepped, taken);
+        }
+    }
+    told(Word::More, taken, state)
+}
+
+// Takes a piece of the stream, up to the byte that leads to an event.
+pub fn feed(
+    r: Reader,
+    head: &mut [u8],
+    block: &mut [u8],
+    question: &mut [u8],
+    ring: KeyRing,
+    piece: &[u8],
+) -> Outcome
+    ensures { λ o. ⌜ made o (now (head .exit)) (now (block .exit)) (now (question .exit)) ≡ feedOf ring (desk r (now (head .entry)) (now (block .entry)) (now (question .entry))) (now (piece .entry)) ⌝ }
+{
+    if !are_roomy(head, block, question) {
+        return unchanged(r, 2);
+    }
+    if RING_LIMIT < ring.count {
+        return unchanged(r, 2);
+    }
+    let phase = r.phase;
+    if !is_reading(phase) {
+        return unchanged(r, 1);
+    }
+    take(recalled(r), head, block, question, ring, piece)
+}
