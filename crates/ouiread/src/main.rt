@@ -1,0 +1,129 @@
+// `ouiread STREAM RING ANSWERS [CUTS [BODY]]` reads a signature stream in pieces and writes a line for each event. A file that is
+// missing or malformed gives one line on standard error and no event. A program of this language has no exit status: the lines tell.
+mod answers; // the letters y and n, read as they are needed
+mod cuts; // the lengths of the pieces
+mod files; // the files by the number of their argument
+mod lines; // lines and their words in a text
+mod messages; // what is written
+mod records; // the key ring's records
+mod sitting; // events, and what they lead to
+mod streaming; // the stream, piece by piece
+
+use answers::Answers;
+use files::BODY;
+use files::CUTS;
+use files::Loaded;
+use files::RING;
+use files::STREAM;
+use ring::KeyRing;
+use sitting::Sitting;
+
+// Lent as arrays, the buffers need no count of their bytes in the proofs. The ring's text is read into the buffer for pieces,
+// which is free until the stream is opened.
+fn run(
+    head: &mut [u8; 8192],
+    block: &mut [u8; 65536],
+    question: &mut [u8; 8192],
+    piece: &mut [u8; 65536],
+    text: &mut [u8; 65536],
+) {
+    let Loaded::Text(n) = files::load(RING, piece) else {
+        return;
+    };
+    let keys = records::keys_of(fields::part(piece, 0, n));
+    if !keys.good {
+        messages::complain(
+            RING,
+            keys.line,
+            b"a record is a key in base64 and its first and last second, one space between; at most 16",
+        );
+        return;
+    }
+    let ring = keys.ring;
+    let answers = answers::open();
+    if answers.fd < 0 {
+        return;
+    }
+    with_cuts(head, block, question, piece, text, ring, answers);
+}
+
+fn with_cuts(
+    head: &mut [u8; 8192],
+    block: &mut [u8; 65536],
+    question: &mut [u8; 8192],
+    piece: &mut [u8; 65536],
+    text: &mut [u8; 65536],
+    ring: KeyRing,
+    answers: Answers,
+) {
+    if os::arg_count() <= CUTS {
+        with_stream(head, block, question, piece, b"65536", ring, answers);
+        return;
+    }
+    let Loaded::Text(n) = files::load(CUTS, text) else {
+        return;
+    };
+    let line = cuts::fault(fields::part(text, 0, n));
+    if line != 0 {
+        messages::complain(
+            CUTS,
+            line,
+            b"a piece length is a number from 0 to 65536; at most 4096, and not all 0",
+        );
+        return;
+    }
+    with_stream(
+        head,
+        block,
+        question,
+        piece,
+        fields::part(text, 0, n),
+        ring,
+        answers,
+    );
+}
+
+fn with_stream(
+    head: &mut [u8; 8192],
+    block: &mut [u8; 65536],
+    question: &mut [u8; 8192],
+    piece: &mut [u8; 65536],
+    cuts: &[u8],
+    ring: KeyRing,
+    answers: Answers,
+) {
+    let stream = files::open(STREAM);
+    if stream < 0 {
+        return;
+    }
+    let body = files::create(BODY);
+    if body == files::FAILED {
+        return;
+    }
+    let s = Sitting {
+        reader: reader::fresh(),
+        answers,
+        body,
+        stopped: false,
+    };
+    streaming::read_all(s, head, block, question, piece, cuts, ring, stream);
+}
+
+fn main() {
+    let count = os::arg_count();
+    if count < 4 {
+        messages::usage();
+        return;
+    }
+    if 6 < count {
+        messages::usage();
+        return;
+    }
+    run(
+        &mut [0; 8192],
+        &mut [0; 65536],
+        &mut [0; 8192],
+        &mut [0; 65536],
+        &mut [0; 65536],
+    );
+}

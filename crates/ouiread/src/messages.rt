@@ -1,0 +1,56 @@
+// What is written: events to standard output, and what is wrong with a file to standard error.
+use libc::STDERR_FILENO;
+use libc::STDOUT_FILENO;
+
+fn err(text: &[u8]) {
+    io::write_all(STDERR_FILENO, text);
+}
+
+pub fn usage() {
+    err(b"usage: ouiread STREAM RING ANSWERS [CUTS [BODY]]\n");
+}
+
+// What is wrong on a line of the file that argument i names.
+pub fn complain(i: usize, line: u64, what: &[u8]) {
+    let mut path = io::buffer();
+    let n = os::arg(i, &mut path);
+    io::write_all(STDERR_FILENO, &path[..n]);
+    err(b": line ");
+    io::print_decimal(STDERR_FILENO, line);
+    err(b": ");
+    err(what);
+    err(b"\n");
+}
+
+fn say(text: &[u8]) {
+    io::write_all(STDOUT_FILENO, text);
+}
+
+// An event with its number, as a line.
+pub fn event(word: &[u8], n: u64) {
+    say(word);
+    io::print_decimal(STDOUT_FILENO, n);
+    say(b"\n");
+}
+
+pub fn question(length: usize) {
+    event(b"question ", length as u64);
+}
+
+pub fn refused(number: u8) {
+    event(b"refused ", number as u64);
+}
+
+pub fn block(offset: u64, length: usize) {
+    say(b"block ");
+    io::print_decimal(STDOUT_FILENO, offset);
+    event(b" ", length as u64);
+}
+
+// The file that argument i names takes no more.
+pub fn unwritten(i: usize) {
+    let mut path = io::buffer();
+    let n = os::arg(i, &mut path);
+    io::write_all(STDERR_FILENO, &path[..n]);
+    err(b": cannot be written\n");
+}

@@ -1,0 +1,152 @@
+// One reading of one stream: its events are written, and its questions answered.
+use crate::answers;
+use crate::answers::Answers;
+use crate::answers::Letter;
+use crate::files::ABSENT;
+use crate::files::BODY;
+use crate::messages;
+use steps::Reader;
+use steps::Word;
+
+// The reader, the answers that are left, the file for the body, and whether the program goes no further.
+pub struct Sitting {
+    pub reader: Reader,
+    pub answers: Answers,
+    pub body: i32,
+    pub stopped: bool,
+}
+
+// The sitting after a call that leaves the reader so.
+pub fn with_reader(s: Sitting, r: Reader) -> Sitting {
+    let answers = s.answers;
+    Sitting {
+        reader: r,
+        answers,
+        body: s.body,
+        stopped: s.stopped,
+    }
+}
+
+fn stopped(s: Sitting) -> Sitting {
+    let mut t = s;
+    t.stopped = true;
+    t
+}
+
+fn answered(s: Sitting, line: u64) -> Sitting {
+    let reader = s.reader;
+    let fd = s.answers.fd;
+    Sitting {
+        reader,
+        answers: Answers { fd, line },
+        body: s.body,
+        stopped: s.stopped,
+    }
+}
+
+// A released block goes to the body's file, where one is asked for, and then its line is written.
+fn tell_block(s: Sitting, block: &[u8], offset: u64, length: usize) -> Sitting {
+    let body = s.body;
+    let released = s.reader.released;
+    if body == ABSENT {
+        messages::block(offset, length);
+        return s;
+    }
+    if !io::write_all(body, reader::block_part(block, released)) {
+        messages::unwritten(BODY);
+        return stopped(s);
+    }
+    messages::block(offset, length);
+    s
+}
+
+// Every event but a question.
+fn tell_plain(s: Sitting, block: &[u8], word: Word) -> Sitting {
+    match word {
+        Word::More => s,
+        Word::Question { length, key: _ } => {
+            messages::question(length);
+            s
+        }
+        Word::Head(status) => {
+            messages::event(b"head ", status);
+            s
+        }
+        Word::Block { offset, length } => tell_block(s, block, offset.0, length),
+        Word::Closed(total) => {
+            messages::event(b"closed ", total);
+            stopped(s)
+        }
+        Word::Refused(number) => {
+            messages::refused(number);
+            stopped(s)
+        }
+    }
+}
+
+fn answer(
+    s: Sitting,
+    head: &mut [u8; 8192],
+    block: &mut [u8; 65536],
+    question: &mut [u8; 8192],
+    good: bool,
+) -> Sitting {
+    let r = s.reader;
+    let o = reader::answer(r, head, block, question, good);
+    let word = o.word;
+    let after = o.reader;
+    tell_plain(with_reader(s, after), block, word)
+}
+
+// Answers the open question. Without an answer the program goes no further.
+fn ask(
+    s: Sitting,
+    head: &mut [u8; 8192],
+    block: &mut [u8; 65536],
+    question: &mut [u8; 8192],
+) -> Sitting {
+    let asked = s.answers;
+    let n = answers::next_letter(asked);
+    let t = answered(s, n.line);
+    let letter = n.letter;
+    match letter {
+        Letter::Yes => answer(t, head, block, question, true),
+        Letter::No => answer(t, head, block, question, false),
+        Letter::LineFeed => stopped(t),
+        Letter::Space => stopped(t),
+        Letter::Other => {
+            answers::wrong(n.line);
+            stopped(t)
+        }
+        Letter::End => stopped(t),
+    }
+}
+
+fn is_question(w: Word) -> bool {
+    match w {
+        Word::More => false,
+        Word::Question { length: _, key: _ } => true,
+        Word::Head(_) => false,
+        Word::Block {
+            offset: _,
+            length: _,
+        } => false,
+        Word::Closed(_) => false,
+        Word::Refused(_) => false,
+    }
+}
+
+// Writes an event and, where it is a question, answers it and writes what the answer gives.
+pub fn tell(
+    s: Sitting,
+    head: &mut [u8; 8192],
+    block: &mut [u8; 65536],
+    question: &mut [u8; 8192],
+    word: Word,
+) -> Sitting {
+    let t = tell_plain(s, block, word);
+    if is_question(word) {
+        return ask(t, head, block, question);
+    }
+    t
+}

@@ -1,0 +1,140 @@
+// The stream, read in pieces of the lengths that are asked for, each fed to its last byte.
+use crate::cuts::cut_at;
+use crate::sitting::Sitting;
+use crate::sitting::tell;
+use crate::sitting::with_reader;
+use reader::Outcome;
+use ring::KeyRing;
+use steps::goes_on;
+
+// The sitting after a call, how many bytes of the piece are fed, and whether its rest is still to be fed.
+struct Fed {
+    sitting: Sitting,
+    taken: usize,
+    again: bool,
+}
+
+// Tells what a call gave, where it is an event.
+fn told(
+    s: Sitting,
+    head: &mut [u8; 8192],
+    block: &mut [u8; 65536],
+    question: &mut [u8; 8192],
+    o: Outcome,
+) -> Fed {
+    let word = o.word;
+    let after = o.reader;
+    let taken = o.taken;
+    let sitting = tell(with_reader(s, after), head, block, question, word);
+    let again = !goes_on(word) & !sitting.stopped;
+    Fed {
+        sitting,
+        taken,
+        again,
+    }
+}
+
+// Feeds the rest of a piece up to the first event, and tells it.
+fn feed_rest(
+    s: Sitting,
+    head: &mut [u8; 8192],
+    block: &mut [u8; 65536],
+    question: &mut [u8; 8192],
+    ring: KeyRing,
+    rest: &[u8],
+) -> Fed {
+    let r = s.reader;
+    let o = reader::feed(r, head, block, question, ring, rest);
+    told(s, head, block, question, o)
+}
+
+// The place after more bytes of a piece.
+fn later(at: usize, taken: usize, most: usize) -> usize {
+    if most < at {
+        return most;
+    }
+    if most - at < taken {
+        return most;
+    }
+    at + taken
+}
+
+// Feeds a piece, and what is left of it after each event.
+fn feed_piece(
+    s: Sitting,
+    head: &mut [u8; 8192],
+    block: &mut [u8; 65536],
+    question: &mut [u8; 8192],
+    ring: KeyRing,
+    piece: &[u8],
+) -> Sitting {
+    let mut sitting = s;
+    let mut at = 0;
+    let mut turns = u64::MAX;
+    while turns > 0 {
+        turns -= 1;
+        let rest = fields::part(piece, at, piece.len());
+        let fed = feed_rest(sitting, head, block, question, ring, rest);
+        sitting = fed.sitting;
+        if !fed.again {
+            return sitting;
+        }
+        at = later(at, fed.taken, piece.len());
+    }
+    sitting
+}
+
+// Fills the front of the room with the next bytes of the stream, fewer than asked only at its end. A stream that can be read no further
+// ends there.
+fn read_piece(stream: i32, room: &mut [u8], size: usize) -> usize {
+    if room.len() < size {
+        return 0;
+    }
+    io::read_full(stream, &mut room[..size])
+}
+
+// Tells the reader that no bytes will follow.
+fn finish(s: Sitting, head: &mut [u8; 8192], block: &mut [u8; 65536], question: &mut [u8; 8192]) {
+    let r = s.reader;
+    let o = reader::end(r, head, block, question);
+    let word = o.word;
+    let after = o.reader;
+    tell(with_reader(s, after), head, block, question, word);
+}
+
+// Reads the stream to its end, or until the program goes no further.
+pub fn read_all(
+    s: Sitting,
+    head: &mut [u8; 8192],
+    block: &mut [u8; 65536],
+    question: &mut [u8; 8192],
+    piece: &mut [u8; 65536],
+    cuts: &[u8],
+    ring: KeyRing,
+    stream: i32,
+) {
+    let mut sitting = s;
+    let mut place = 0;
+    let mut turns = u64::MAX;
+    while turns > 0 {
+        turns -= 1;
+        let cut = cut_at(cuts, place);
+        place = cut.next;
+        let n = read_piece(stream, piece, cut.size);
+        sitting = feed_piece(
+            sitting,
+            head,
+            block,
+            question,
+            ring,
+            fields::part(piece, 0, n),
+        );
+        if sitting.stopped {
+            return;
+        }
+        if n < cut.size {
+            finish(sitting, head, block, question);
+            return;
+        }
+    }
+}
