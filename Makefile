@@ -5,9 +5,9 @@
 
 run:
 	@scripts/setup
-	@rt check vectors >target.log 2>&1 || { cat target.log; rm -f target.log; exit 1; }
+	@rt check ouiread >target.log 2>&1 || { cat target.log; rm -f target.log; exit 1; }
 	@rm -f target.log
-	@target/bin/vectors
+	@cd crates/ouiread/data && ../../../target/bin/ouiread stream ring answers
 
 test:
 	@scripts/gate
