@@ -4,7 +4,7 @@ use mathlib.Core.Path.{_≡_}
 use mathlib.Core.Bool.{Bool, true, false, _||_}
 use mathlib.Core.List.{List, [], _∷_, _++_}
 use Prim.Native.Nat.{ℕ, _+_}
-use lib.ListN.{drop}
+use lib.ListN.{take, drop}
 use Rattle.sections.specs.Reading.{Log}
 use Rattle.sections.specs.Calls.{Request, feed, answer, end, Call, call, Word, more, event, misused, Out, over, standing}
 
@@ -27,6 +27,13 @@ continues left false r = Unit {0}
 continues left true (feed piece) = Begins piece left
 continues left true (answer a) = Unit {0}
 continues left true end = left ≡ []
+
+-- The bytes that a call took, if it was heard: the first so many of its piece.
+abbrev pub bytesOf : Bool → ℕ → Request → List ℕ
+bytesOf false n r = []
+bytesOf true n (feed piece) = take n piece
+bytesOf true n (answer a) = []
+bytesOf true n end = []
 
 -- The answer that a call gave, if it was heard.
 abbrev pub answerOf : Bool → Request → List Bool
@@ -67,6 +74,12 @@ module _ {Q E L : Type 0} where
   -- The events that a list of calls gave.
   abbrev pub events : List (Out Q E L) → Log Q E L
   events os = placed 0 os
+
+  -- The bytes that were taken, one after the other.
+  unfoldable pub bytesTaken : List Call → List (Out Q E L) → List ℕ
+  bytesTaken [] os = []
+  bytesTaken (k ∷ ks) [] = []
+  bytesTaken (k ∷ ks) (o ∷ os) = bytesOf (heard (o .0)) (o .1) (request k) ++ bytesTaken ks os
 
   -- The answers that were heard, in their order.
   unfoldable pub answersHeard : List Call → List (Out Q E L) → List Bool
