@@ -1,0 +1,126 @@
+-- Document 000's example, with size 5 and the body `Hello world!`, is an honest show: so it comes out whole. Assumes nothing.
+use mathlib.Core.Bool.{Bool, true}
+use mathlib.Core.List.{List, [], _∷_, _++_, append-nil}
+use mathlib.Core.Path.{_≡_, refl, sym, ap, _∙_}
+use Prim.Native.Nat.{ℕ, _≤_}
+use native.Mathlib.Omega.{arith}
+use lib.ListN.{length, replicate}
+use Rattle.octets.specs.Octets.{octets}
+use Rattle.base64.specs.Base64.{isText as isBase64, valueOf as letterValue, holdsThree, holdsTwo, holdsOne, joined as joinedLetters, bytesOf as base64Bytes, textOf}
+use Rattle.sections.specs.Reading.{cut, cutAt}
+use Rattle.sections.proofs.Cuts.{NoneBelow, cut-is}
+use Rattle.stream.specs.Bytes.{all, same, lowered, sameName}
+use Rattle.stream.specs.Fields.{among, isDoubled, namesOf, hasField, valueOf}
+use Rattle.stream.specs.Head.{endsHead, isWholeHead, headWith, headOf, statusDigits, injectionTime, blockSize, blockKey, headKey, listedNames, trustedBy, textRules, trustRules, headFault}
+use Rattle.stream.specs.Limits.{bodyLimit}
+use Rattle.stream.specs.Lines.{endsWith, lines, beforeEmpty, textLines, trimmed, fieldScan, isFieldLine, fieldOf, areFieldLines, fieldsOf, statusScan, isStatusLine, statusOf}
+use Rattle.stream.specs.Numbers.{numberFrom, isDecimal, isHexNumber}
+use Rattle.stream.specs.Ring.{fits, firstFrom, found}
+use Rattle.stream.specs.Rule.{firstBroken}
+use Rattle.stream.specs.Signatures.{injectionScan, isInjection, bsigsScan, isBsigs, sig0Scan, isSig0, splitNames, areFields, isNameList}
+use Rattle.stream.specs.Stream.{plainReading}
+use Rattle.stream.specs.Template.{run, past, startsWith, scan}
+use Rattle.stream.specs.Trailer.{endsTrailer, isWholeTrailer, isTrailer}
+use Rattle.stream.proofs.Example.{ring, exampleHead, exampleBody}
+use Rattle.exactness.specs.Good.{GoodHead, GoodTrailer}
+use Rattle.exactness.specs.ShowEvents.{showEvents}
+use Rattle.exactness.specs.Shows.{Chunk, WholeShow, joined, chunksWritten, streamOf, Writes, HonestChunk, HonestChunks, Sized, Honest}
+use Rattle.exactness.specs.Telling.{released}
+use Rattle.exactness.proofs.Completeness.{show-complete, show-released}
+use Rattle.exactness.proofs.Faults.{faultless-head, faultless-trailer}
+
+-- ---- the head keeps the rules
+
+head-cut : cut isWholeHead exampleHead ≡ cutAt exampleHead []
+unfolding cut isWholeHead endsHead endsWith same
+head-cut = refl
+
+head-faultless : headFault ring exampleHead ≡ 0
+unfolding isBase64 letterValue holdsThree holdsTwo holdsOne joinedLetters base64Bytes all same lowered sameName among isDoubled namesOf hasField valueOf endsHead headWith headOf statusDigits injectionTime blockSize blockKey headKey listedNames trustedBy textRules trustRules headFault endsWith lines beforeEmpty textLines trimmed fieldScan isFieldLine fieldOf areFieldLines fieldsOf statusScan isStatusLine statusOf numberFrom isDecimal fits firstFrom found firstBroken injectionScan isInjection bsigsScan isBsigs sig0Scan isSig0 splitNames areFields isNameList run past startsWith scan
+head-faultless = refl
+
+head-none : NoneBelow isWholeHead exampleHead (length exampleHead)
+head-none = (rw head-cut at (cut-is isWholeHead exampleHead)) .3
+
+head-good : GoodHead ring exampleHead
+head-good = faultless-head ring exampleHead head-none head-faultless
+
+-- ---- the show
+
+chunk : List ℕ → List ℕ → Chunk
+chunk digits block = record { block = block; digits = digits; signature = replicate 64 0 }
+
+pub example : WholeShow
+example =
+    record {
+      head = exampleHead;
+      chunks = chunk (octets "5") (octets "Hello") ∷ chunk (octets "5") (octets " worl") ∷ chunk (octets "2") (octets "d!") ∷ [];
+      zeros = octets "0";
+      trailer = octets "\r\n";
+    }
+
+-- it is written as the example is
+pub example-stream : streamOf example ≡ exampleHead ++ exampleBody
+unfolding example chunk chunksWritten textOf
+example-stream = refl
+
+trailer-cut : cut isWholeTrailer (octets "\r\n") ≡ cutAt (octets "\r\n") []
+unfolding cut isWholeTrailer endsTrailer endsWith same
+trailer-cut = refl
+
+trailer-is : isTrailer (octets "\r\n") ≡ true
+unfolding isTrailer endsTrailer same areFieldLines textLines beforeEmpty lines
+trailer-is = refl
+
+trailer-good : GoodTrailer (octets "\r\n")
+trailer-good = faultless-trailer (octets "\r\n") ((rw trailer-cut at (cut-is isWholeTrailer (octets "\r\n"))) .3) trailer-is
+
+size-five : blockSize (headOf exampleHead) ≡ 5
+unfolding headWith headOf blockSize numberFrom lines beforeEmpty textLines trimmed fieldScan fieldOf fieldsOf valueOf sameName lowered same bsigsScan injectionScan sig0Scan run past startsWith scan
+size-five = refl
+
+chunk-honest : (digits block : List ℕ) → 1 ≤ length block → Writes digits (length block) → HonestChunk (chunk digits block)
+unfolding chunk
+chunk-honest digits block i w = record { some = i; size = w; bytes = refl; sixty-four = refl }
+
+chunks-honest : HonestChunks (example .chunks)
+unfolding example isHexNumber all numberFrom
+chunks-honest = (
+  chunk-honest (octets "5") (octets "Hello") (omega arith) (record { text = refl; value = refl }),
+  (
+    chunk-honest (octets "5") (octets " worl") (omega arith) (record { text = refl; value = refl }),
+    (chunk-honest (octets "2") (octets "d!") (omega arith) (record { text = refl; value = refl }), tt),
+  ),
+)
+
+chunks-sized : (N : ℕ) → N ≡ 5 → Sized N (example .chunks)
+unfolding example chunk
+chunks-sized N e = (omega arith, (omega arith, omega arith))
+
+chunks-total : length (joined (example .chunks)) ≤ bodyLimit
+unfolding example chunk joined
+chunks-total = omega arith
+
+pub example-honest : Honest ring example
+unfolding example isHexNumber all numberFrom
+example-honest =
+    record {
+      head = head-good;
+      chunks = chunks-honest;
+      sized = chunks-sized (blockSize (headOf exampleHead)) size-five;
+      total = chunks-total;
+      zeros = record { text = refl; value = refl };
+      trailer = trailer-good;
+    }
+
+-- ---- with four yeses it comes out whole
+
+pub example-whole : (told : Bool) → plainReading ring (exampleHead ++ exampleBody) (replicate 4 true) told ≡ showEvents ring example
+unfolding example
+example-whole told =
+    ap (λ (k : List ℕ). plainReading ring k (replicate 4 true) told) (sym (append-nil (streamOf example) ∙ example-stream))
+    ∙ show-complete ring example [] [] told example-honest
+
+pub example-body : released (showEvents ring example) ≡ octets "Hello world!"
+unfolding example chunk joined
+example-body = show-released ring example example-honest

@@ -1,0 +1,72 @@
+-- Which beginnings of a stream keep the rules, and which trailers do (paper 01, "The head" and "Blocks"). The rules of single
+-- texts are those of the definitions of the stream; how the parts follow each other is said here anew, from the paper: neither
+-- the plain reading nor its verdicts are used. Assumes nothing.
+use mathlib.Core.Bool.{Bool, true, false}
+use mathlib.Core.List.{List, [], _∷_, _++_}
+use mathlib.Core.Path.{_≡_}
+use Prim.Native.Nat.{ℕ, _+_, _≤_, _<_}
+use lib.ListN.{length, take}
+use Rattle.stream.specs.Blocks.{isChunkLine, carriesSignature, chunkSize}
+use Rattle.stream.specs.Head.{endsHead, headOf, blockSize, textRules, trustRules}
+use Rattle.stream.specs.Limits.{headLimit, lineLimit, bodyLimit}
+use Rattle.stream.specs.Lines.{crlf, endsWith, textLines, areFieldLines}
+use Rattle.stream.specs.Ring.{Ring}
+use Rattle.stream.specs.Rule.{Rule}
+use Rattle.stream.specs.Trailer.{endsTrailer}
+use Rattle.exactness.specs.Beginning.{Beginning, opening, onward, size, announces, body}
+
+-- every rule of the list holds
+abbrev pub Kept : List Rule → Type 0
+Kept [] = Unit {0}
+Kept (r ∷ rs) = (r .holds ≡ true) × Kept rs
+
+-- l has the end that is looked for, and no shorter beginning of l has it: "at the first CR LF CR LF"
+pub record EndsFirst (ends : List ℕ → Bool) (l : List ℕ) : Type 0 where
+  pub there : ends l ≡ true
+  pub earlier : (n : ℕ) → n < length l → ends (take n l) ≡ false
+
+-- A good head ends within 8,192 bytes, keeps every rule of its text, and its key is trusted.
+pub record GoodHead (ring : Ring) (l : List ℕ) : Type 0 where
+  pub ends : EndsFirst endsHead l
+  pub short : length l ≤ headLimit
+  pub text : Kept (textRules l (headOf l))
+  pub trust : Kept (trustRules ring (headOf l))
+
+-- A good chunk line ends within 128 bytes and is written as a line is; it announces at most N bytes, and with them the body,
+-- of which `sofar` bytes came before, keeps its limit.
+pub record GoodLine (N sofar : ℕ) (l : List ℕ) : Type 0 where
+  pub ends : EndsFirst (endsWith crlf) l
+  pub short : length l ≤ lineLimit
+  pub text : isChunkLine l ≡ true
+  pub most : chunkSize l ≤ N
+  pub total : sofar + chunkSize l ≤ bodyLimit
+
+-- "The first line carries no `ouisig`"
+pub record GoodFirstLine (N : ℕ) (l : List ℕ) : Type 0 where
+  pub line : GoodLine N 0 l
+  pub unsigned : carriesSignature l ≡ false
+
+-- "each later one, the 0 line included, carries the signature of the block before it"; where it announces a further block,
+-- the block before has N bytes: "Every block but the last has N bytes"
+pub record GoodNextLine (N sofar : ℕ) (b l : List ℕ) : Type 0 where
+  pub line : GoodLine N sofar l
+  pub signed : carriesSignature l ≡ true
+  pub full : 1 ≤ chunkSize l → length b ≡ N
+
+-- b is the block that w announces. "Size 0 ends the body": no block comes after it
+pub record Announced (w : Beginning) (b : List ℕ) : Type 0 where
+  pub some : 1 ≤ length b
+  pub just : length b ≡ announces w
+
+-- THE GOOD BEGINNINGS. A good head and a good first line are one; and so is a good beginning with the block that it
+-- announces and a good line after that.
+pub data Good (ring : Ring) : Beginning → Type 0 where
+  opens : {h l : List ℕ} → GoodHead ring h → GoodFirstLine (blockSize (headOf h)) l → Good ring (opening h l)
+  goes-on : {w : Beginning} {b l : List ℕ} → Good ring w → Announced w b → GoodNextLine (size w) (length (body w ++ b)) b l
+      → Good ring (onward w b l)
+
+-- A good trailer ends within 8,192 bytes, and all that it holds are field lines.
+pub record GoodTrailer (t : List ℕ) : Type 0 where
+  pub ends : EndsFirst endsTrailer t
+  pub short : length t ≤ headLimit
+  pub text : areFieldLines (textLines t) ≡ true

@@ -1,0 +1,7 @@
+pub mod Beginning
+pub mod Good
+pub mod Refusals
+pub mod Telling
+pub mod Releases
+pub mod Shows
+pub mod ShowEvents

@@ -1,0 +1,42 @@
+-- What is to be told of an honest show, computed from the show alone: every event with its place and all that it carries
+-- (paper 01, "The plain reading" and "Blocks"). Assumes nothing.
+use mathlib.Core.List.{List, [], _∷_}
+use Prim.Native.Nat.{ℕ, suc, _+_}
+use lib.ListN.{length}
+use Rattle.sections.specs.Reading.{question, message, last, Log}
+use Rattle.stream.specs.Blocks.{chained, blockMessage, offsetOf}
+use Rattle.stream.specs.Events.{Question, Release, block, LastWord, closed}
+use Rattle.stream.specs.Head.{Head, headOf, injectionId, blockSize, trustedBy}
+use Rattle.stream.specs.Ring.{Ring, numberOf}
+use Rattle.exactness.specs.Shows.{Chunk, WholeShow, joined, chunkLine, signed, nextDigits}
+use Rattle.exactness.specs.Telling.{headAsks, headTells}
+
+-- The question about block i, where `before` is hash(i-1), or nothing for the first: its message, the signature that was
+-- written down for it, and the record of the head's key.
+unfoldable pub chunkAsks : Ring → Head → ℕ → List ℕ → Chunk → Question
+chunkAsks ring h i before c =
+    record {
+      message = blockMessage (injectionId h) (offsetOf i (blockSize h)) (chained before (c .block));
+      signature = c .signature;
+      keyNumber = numberOf (trustedBy ring h);
+    }
+
+-- where the line after a chunk ends, if the line before it ended at the place `at`: behind the block, its CR LF and that line
+abbrev pub lineEnd : ℕ → Chunk → List Chunk → List ℕ → ℕ
+lineEnd at c cs zeros = at + length (c .block) + 2 + length (chunkLine (nextDigits cs zeros) (signed (c .signature)))
+
+-- The events from block i on, where the line before it ended at the place `at`: for each block its question and then the block,
+-- both at the end of the line after it; at the end of the trailer *closed*, with the total.
+unfoldable pub chunkEvents : Ring → WholeShow → ℕ → List ℕ → ℕ → List Chunk → Log Question Release LastWord
+chunkEvents ring s i before at [] = (at + length (s .trailer), last (closed (length (joined (s .chunks))))) ∷ []
+chunkEvents ring s i before at (c ∷ cs) =
+    (lineEnd at c cs (s .zeros), question (chunkAsks ring (headOf (s .head)) i before c))
+    ∷ (lineEnd at c cs (s .zeros), message (block (offsetOf i (blockSize (headOf (s .head)))) (c .block)))
+    ∷ chunkEvents ring s (suc i) (chained before (c .block)) (lineEnd at c cs (s .zeros)) cs
+
+-- All events: the head's question and *head accepted* at its end, and those of the blocks.
+unfoldable pub showEvents : Ring → WholeShow → Log Question Release LastWord
+showEvents ring s =
+    (length (s .head), question (headAsks ring (headOf (s .head))))
+    ∷ (length (s .head), message (headTells (headOf (s .head))))
+    ∷ chunkEvents ring s 0 [] (length (s .head) + length (chunkLine (nextDigits (s .chunks) (s .zeros)) [])) (s .chunks)

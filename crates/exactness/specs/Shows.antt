@@ -1,0 +1,101 @@
+-- A show as its sender writes it down (paper 01, "Blocks"): the head, the body in blocks, and the trailer, with sizes in hex of
+-- either case and leading zeros or not, and any 64 bytes for a signature. Assumes nothing.
+use mathlib.Core.Bool.{true}
+use mathlib.Core.List.{List, [], _∷_, _++_}
+use mathlib.Core.Path.{_≡_}
+use Prim.Native.Nat.{ℕ, _≤_}
+use lib.ListN.{length}
+use lib.Pow.{areBytes}
+use Rattle.base64.specs.Base64.{textOf}
+use Rattle.stream.specs.Blocks.{ouisig}
+use Rattle.stream.specs.Head.{headOf, blockSize}
+use Rattle.stream.specs.Limits.{sizeDigits, bodyLimit}
+use Rattle.stream.specs.Lines.{crlf}
+use Rattle.stream.specs.Numbers.{isHexNumber, hexValue}
+use Rattle.stream.specs.Ring.{Ring}
+use Rattle.exactness.specs.Beginning.{Beginning, opening, onward}
+use Rattle.exactness.specs.Good.{GoodHead, GoodTrailer}
+
+-- ---- a show
+
+-- a block of the body; its length in hex, as the line before it has it; and the signature that the line after it carries
+pub record Chunk : Type 0 where
+  pub block : List ℕ
+  pub digits : List ℕ
+  pub signature : List ℕ
+
+-- `zeros` is what the 0 line has for its size
+pub record WholeShow : Type 0 where
+  pub head : List ℕ
+  pub chunks : List Chunk
+  pub zeros : List ℕ
+  pub trailer : List ℕ
+
+-- the blocks joined
+unfoldable pub joined : List Chunk → List ℕ
+joined [] = []
+joined (c ∷ cs) = c .block ++ joined cs
+
+-- ---- how it is written
+
+-- a size, then nothing or a signature
+abbrev pub chunkLine : List ℕ → List ℕ → List ℕ
+chunkLine digits more = digits ++ more ++ crlf
+
+abbrev pub signed : List ℕ → List ℕ
+signed signature = ouisig ++ textOf signature
+
+-- the chunks up to and with the 0 line, where the first line has `more` after its size
+unfoldable pub chunksWritten : List ℕ → List Chunk → List ℕ → List ℕ
+chunksWritten more [] zeros = chunkLine zeros more
+chunksWritten more (c ∷ cs) zeros = chunkLine (c .digits) more ++ (c .block ++ (crlf ++ chunksWritten (signed (c .signature)) cs zeros))
+
+-- the first line carries no signature
+abbrev pub streamOf : WholeShow → List ℕ
+streamOf s = s .head ++ (chunksWritten [] (s .chunks) (s .zeros) ++ s .trailer)
+
+-- ---- what makes it honest
+
+-- "1 to 8 hex digits of either case"
+pub record Writes (digits : List ℕ) (n : ℕ) : Type 0 where
+  pub text : isHexNumber sizeDigits digits ≡ true
+  pub value : hexValue digits ≡ n
+
+pub record HonestChunk (c : Chunk) : Type 0 where
+  pub some : 1 ≤ length (c .block)
+  pub size : Writes (c .digits) (length (c .block))
+  pub bytes : areBytes (c .signature) ≡ true
+  pub sixty-four : length (c .signature) ≡ 64
+
+abbrev pub HonestChunks : List Chunk → Type 0
+HonestChunks [] = Unit {0}
+HonestChunks (c ∷ cs) = HonestChunk c × HonestChunks cs
+
+-- "Every block but the last has N bytes, the last 1 to N"
+abbrev pub Sized : ℕ → List Chunk → Type 0
+Sized N [] = Unit {0}
+Sized N (c ∷ []) = length (c .block) ≤ N
+Sized N (c ∷ d ∷ cs) = (length (c .block) ≡ N) × Sized N (d ∷ cs)
+
+pub record Honest (ring : Ring) (s : WholeShow) : Type 0 where
+  pub head : GoodHead ring (s .head)
+  pub chunks : HonestChunks (s .chunks)
+  pub sized : Sized (blockSize (headOf (s .head))) (s .chunks)
+  pub total : length (joined (s .chunks)) ≤ bodyLimit
+  pub zeros : Writes (s .zeros) 0
+  pub trailer : GoodTrailer (s .trailer)
+
+-- ---- its parts, as a beginning of the stream
+
+-- the size that comes next
+abbrev pub nextDigits : List Chunk → List ℕ → List ℕ
+nextDigits [] zeros = zeros
+nextDigits (c ∷ cs) zeros = c .digits
+
+unfoldable pub continued : Beginning → List Chunk → List ℕ → Beginning
+continued w [] zeros = w
+continued w (c ∷ cs) zeros = continued (onward w (c .block) (chunkLine (nextDigits cs zeros) (signed (c .signature)))) cs zeros
+
+-- all but the trailer
+abbrev pub beginningOf : WholeShow → Beginning
+beginningOf s = continued (opening (s .head) (chunkLine (nextDigits (s .chunks) (s .zeros)) [])) (s .chunks) (s .zeros)

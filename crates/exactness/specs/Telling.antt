@@ -1,0 +1,103 @@
+-- What is to be told of a stream, and where: which event the last byte of a good beginning decides, and the whole list of
+-- events of an honest stream (paper 01, "The plain reading"). Written over good beginnings alone. Assumes nothing.
+use mathlib.Core.Bool.{Bool, true, false}
+use mathlib.Core.List.{List, [], _∷_, _++_}
+use mathlib.Core.Path.{_≡_}
+use Prim.Native.Nat.{ℕ, suc}
+use lib.ListN.{length, replicate}
+use Rattle.sections.specs.Reading.{Event, question, message, last, Log}
+use Rattle.stream.specs.Blocks.{lineSignature, blockMessage}
+use Rattle.stream.specs.Events.{Question, Release, headAccepted, block, LastWord, closed, refused}
+use Rattle.stream.specs.Head.{Head, headOf, statusDigits, injectionId, headSignature, signedOf, signingString, trustedBy}
+use Rattle.stream.specs.Numbers.{decimalValue}
+use Rattle.stream.specs.Ring.{Ring, numberOf}
+use Rattle.exactness.specs.Beginning.{Beginning, opening, onward, written, headIn, announces, body, hash, offset, questions}
+use Rattle.exactness.specs.Good.{GoodHead, Good, GoodTrailer}
+use Rattle.exactness.specs.Refusals.{Refuses, Unfinished}
+
+abbrev pub Told : Type 0
+Told = Event Question Release LastWord
+
+-- ---- what is asked and told
+
+-- "signing string, Sig0's signature, the record found"
+unfoldable pub headAsks : Ring → Head → Question
+headAsks ring h = record { message = signingString h; signature = headSignature h; keyNumber = numberOf (trustedBy ring h) }
+
+-- the status, and the fields whose values are handed out
+unfoldable pub headTells : Head → Release
+headTells h = headAccepted (decimalValue (statusDigits h)) (signedOf h)
+
+-- about the block b that comes after w, where l is the line after b: "block message, that signature, the same record"
+unfoldable pub blockAsks : Ring → Beginning → List ℕ → List ℕ → Question
+blockAsks ring w b l =
+    record {
+      message = blockMessage (injectionId (headIn w)) (offset w) (hash (onward w b l));
+      signature = lineSignature l;
+      keyNumber = numberOf (trustedBy ring (headIn w));
+    }
+
+-- ---- where each event is decided
+
+-- `Decides ring front yeses e`: the last byte of `front` decides the event e, where `yeses` questions were answered with yes.
+-- A question is asked when all before it were answered so; what it asks for is told, at the same byte, on one yes more.
+pub data Decides (ring : Ring) : List ℕ → ℕ → Told → Type 0 where
+  head-asked : {h : List ℕ} → GoodHead ring h → Decides ring h 0 (question (headAsks ring (headOf h)))
+  head-told : {h : List ℕ} → GoodHead ring h → Decides ring h 1 (message (headTells (headOf h)))
+  block-asked : {w : Beginning} {b l : List ℕ} → Good ring (onward w b l)
+      → Decides ring (written (onward w b l)) (questions w) (question (blockAsks ring w b l))
+  block-told : {w : Beginning} {b l : List ℕ} → Good ring (onward w b l)
+      → Decides ring (written (onward w b l)) (suc (questions w)) (message (block (offset w) b))
+  body-closed : {w : Beginning} {t : List ℕ} → Good ring w → announces w ≡ 0 → GoodTrailer t
+      → Decides ring (written w ++ t) (questions w) (last (closed (length (body w))))
+  rule-broken : {front : List ℕ} {yeses n : ℕ} → Refuses ring front yeses n → Decides ring front yeses (last (refused n))
+
+-- The event e is due at the place `at` of the stream S: a beginning of S of that length decides it, and the answers begin
+-- with all the yeses that it needs.
+pub record Due (ring : Ring) (S : List ℕ) (answers : List Bool) (at : ℕ) (e : Told) : Type 0 where
+  pub front : List ℕ
+  pub rest : List ℕ
+  pub stream : front ++ rest ≡ S
+  pub place : length front ≡ at
+  pub yeses : ℕ
+  pub others : List Bool
+  pub granted : replicate yeses true ++ others ≡ answers
+  pub decides : Decides ring front yeses e
+
+-- All that may be told of a stream: an event that is due; refusal 10 where a question is due and the answer to it is no; and
+-- refusal 11, at the place of all the bytes, where the end was told and the stream is unfinished.
+pub data Expected (ring : Ring) (S : List ℕ) (answers : List Bool) (told : Bool) : ℕ → Told → Type 0 where
+  on-time : {at : ℕ} {e : Told} → Due ring S answers at e → Expected ring S answers told at e
+  denied : {at : ℕ} {q : Question} (d : Due ring S answers at (question q)) (others : List Bool) → d .others ≡ false ∷ others
+      → Expected ring S answers told at (last (refused 10))
+  broken-off : (yeses : ℕ) (others : List Bool) → replicate yeses true ++ others ≡ answers → Unfinished ring S yeses → told ≡ true
+      → Expected ring S answers told (length S) (last (refused 11))
+
+-- x stands in the list
+pub record Stands {A : Type 0} (x : A) (l : List A) : Type 0 where
+  pub before : List A
+  pub after : List A
+  pub joined : before ++ x ∷ after ≡ l
+
+-- ---- the events of an honest stream
+
+-- question and *head accepted* at the head's last byte; for each block question and *block*, at the last byte of the line after it
+unfoldable pub logOf : Ring → Beginning → Log Question Release LastWord
+logOf ring (opening h l) = (length h, question (headAsks ring (headOf h))) ∷ (length h, message (headTells (headOf h))) ∷ []
+logOf ring (onward w b l) =
+    logOf ring w
+    ++ (length (written (onward w b l)), question (blockAsks ring w b l))
+    ∷ (length (written (onward w b l)), message (block (offset w) b))
+    ∷ []
+
+-- and at the trailer's last byte *closed*, with the length of the body
+abbrev pub wholeLog : Ring → Beginning → List ℕ → Log Question Release LastWord
+wholeLog ring w t = logOf ring w ++ (length (written w ++ t), last (closed (length (body w)))) ∷ []
+
+-- the bytes of all blocks that a list of events releases, joined
+unfoldable pub released : Log Question Release LastWord → List ℕ
+released [] = []
+released ((at, question q) ∷ log) = released log
+released ((at, message (headAccepted status fields)) ∷ log) = released log
+released ((at, message (block o b)) ∷ log) = b ++ released log
+released ((at, last l) ∷ log) = released log
