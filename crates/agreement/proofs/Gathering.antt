@@ -1,0 +1,72 @@
+-- Laws on gathered bytes, and on what stays as it is while bytes are taken. Assumes nothing.
+use mathlib.Core.Path.{_≡_, refl, sym, _∙_}
+use mathlib.Core.Bool.{Bool, true, false, true≢false}
+use mathlib.Core.List.{List, [], _∷_, _++_}
+use Prim.Native.Nat.{ℕ, _+_, _≤_, _<_}
+use native.Mathlib.Numerals.{add-one}
+use native.Mathlib.Omega.{arith}
+use borrow.Author.Tests.{leb-true, leb-false}
+use lib.Dec.{leb}
+use lib.ListN.{length, set, length-append}
+use lib.Seq.{take-suc-set}
+use Rattle.stream.specs.Lines.{Field}
+use Rattle.stream.specs.Stream.{Show, Past, Context, isWhole}
+use Rattle.stream.proofs.Sound.{limitOf, whole-at-limit}
+use Rattle.steps.specs.Desk.{Desk, renewed}
+use Rattle.steps.specs.declared.state.Phase.{Phase}
+use Rattle.steps.specs.declared.state.Reader.{Reader}
+use Rattle.agreement.proofs.Stands.{Gathered, Keeps, Counts, Lent, Under}
+
+pub none-gathered : (buffer : List ℕ) → Gathered buffer 0 []
+none-gathered buffer = record { bytes = refl; count = refl }
+
+-- a byte more
+pub gather : (buffer g : List ℕ) (n x : ℕ) → Gathered buffer n g → n < length buffer → Gathered (set buffer n x) (n + 1) (g ++ x ∷ [])
+gather buffer g n x a h =
+    record {
+      bytes = rw (add-one n, take-suc-set buffer n x h, a .bytes);
+      count = rw (length-append g (x ∷ []), a .count);
+    }
+
+-- a section that is not whole is shorter than its limit
+pub short : (c : Context) (g : List ℕ) → isWhole c g ≡ false → length g < limitOf c
+short c g e = by (leb (limitOf c) (length g)) refl
+  where
+    by : (t : Bool) → leb (limitOf c) (length g) ≡ t → length g < limitOf c
+    by true h = absurd (true≢false (sym (whole-at-limit c g (leb-true (limitOf c) (length g) h)) ∙ e))
+    by false h = leb-false (limitOf c) (length g) h
+
+-- with the byte that makes it whole it has at most so many
+pub at-most : (c : Context) (g : List ℕ) (x : ℕ) → isWhole c g ≡ false → length (g ++ x ∷ []) ≤ limitOf c
+at-most c g x e = rw (length-append g (x ∷ [])) (omega (arith, short c g e))
+
+-- another desk with the same head, and buffers of the same lengths
+pub still : {d : Desk} {fields : List Field} → Lent d fields → (d′ : Desk) → d′ .head ≡ d .head → d′ .reader .accepted ≡ d .reader .accepted
+    → length (d′ .block) ≡ length (d .block) → length (d′ .question) ≡ length (d .question) → length (d′ .reader .line) ≡ length (d .reader .line)
+    → Lent d′ fields
+still l d′ h a b q n =
+    record {
+      head = rw h (l .head);
+      block = rw b (l .block);
+      question = rw q (l .question);
+      line = n ∙ l .line;
+      value = λ name. rw (h, a) (l .value name);
+    }
+
+-- a reader with another phase and line keeps what it kept
+pub keeps-on : {r : Reader} {s : Show} (p : Phase) (line hash : List ℕ) → Keeps r s → Keeps (renewed r p line hash) s
+keeps-on p line hash k = record { id = k .id; size = k .size; key = k .key }
+
+pub counts-on : {r : Reader} {past : Past} (p : Phase) (line : List ℕ) → Counts r past → Counts (renewed r p line (r .hash)) past
+counts-on p line c = record { blocks = c .blocks; hash = c .hash }
+
+-- the block under way, of which no byte changes
+pub under-on : {d : Desk} {s : Show} {past : Past} {size : ℕ} {b : List ℕ} (p : Phase) (line : List ℕ) (d′ : Desk)
+    → d′ .reader ≡ renewed (d .reader) p line (d .reader .hash) → d′ .block ≡ d .block → Under d s past size b → Under d′ s past size b
+under-on {d} p line d′ e f u =
+    record {
+      keeps = rw e (keeps-on p line (d .reader .hash) (u .keeps));
+      counts = rw e (counts-on p line (u .counts));
+      sound = u .sound;
+      bytes = rw f (u .bytes);
+    }

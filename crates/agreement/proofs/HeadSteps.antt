@@ -1,0 +1,123 @@
+-- A byte of the head, which leads to the head's question. Assumes nothing.
+use mathlib.Core.Path.{_≡_, refl}
+use mathlib.Core.Bool.{Bool, true, false}
+use mathlib.Core.List.{List, [], _∷_, _++_}
+use Prim.Native.Nat.{ℕ, zero, suc, _+_, _≤_, _<_}
+use native.Mathlib.Omega.{arith}
+use borrow.Author.Tests.{ne-eqb, le-leb, lt-leb}
+use lib.Dec.{leb, eqb}
+use lib.ListN.{length, drop, set, length-set}
+use lib.Seq.{take-append-seam}
+use Rattle.octets.specs.Choice.{pick}
+use Rattle.sections.specs.Reading.{question}
+use Rattle.sections.specs.Calls.{event}
+use Rattle.sections.specs.Machine.{rule, gathered, step}
+use Rattle.params.specs.Injection.{padded}
+use Rattle.stream.specs.Head.{headOf, statusDigits, injectionId, blockSize, headSignature, signingString, trustedBy, headFault, isWholeHead}
+use Rattle.stream.specs.Limits.{headLimit, idLimit}
+use Rattle.stream.specs.Lines.{Field}
+use Rattle.stream.specs.Numbers.{decimalValue}
+use Rattle.stream.specs.Ring.{Ring, numberOf}
+use Rattle.stream.specs.Stream.{isWhole, unlessBroken, showOf, headQuestion, acceptHead, judge, judgeHead, rules}
+use Rattle.stream.specs.Stream as C
+use Rattle.stream.proofs.SigningSize.{signing-fits}
+use Rattle.stream.proofs.SoundJudge.{SoundSays, judge-sound}
+use Rattle.head.proofs.ValueLaws.{handed-none}
+use Rattle.signing.specs.Judgement.{headJudged, noneAsked, judged}
+use Rattle.signing.specs.Judgement as J
+use Rattle.steps.specs.Desk.{Desk, desk, inPhase, on}
+use Rattle.steps.specs.declared.state.Phase.the-variants as P
+use Rattle.steps.specs.declared.state.Reader.{Reader}
+use Rattle.steps.specs.declared.state.Word.the-variants as W
+use Rattle.reader.specs.HeadByte.{asking, headAnswered, judgedAt, headGathered, pushHead}
+use Rattle.agreement.specs.Run.{wordSeen}
+use Rattle.agreement.proofs.Stands.{Gathered, Keeps, Lent, Follows}
+use Rattle.agreement.proofs.Stands as F
+use Rattle.agreement.proofs.Gathering.{gather, short, at-most, still}
+use Rattle.agreement.proofs.NextSteps.{front-length}
+use Rattle.agreement.proofs.Refusals.{refuses, head-number}
+
+module _ (ring : Ring) (fields : List Field) (d : Desk) (x : ℕ) (lent : Lent d fields) (none : d .reader .released ≡ 0)
+    (early : d .reader .accepted ≡ 0) (have : ℕ) (g : List ℕ) where
+  abbrev l : List ℕ
+  l = g ++ x ∷ []
+
+  abbrev d′ : Desk
+  d′ = desk (inPhase (d .reader) (P.Head (have + 1))) (set (d .head) have x) (d .block) (d .question)
+
+  -- no head was accepted, so nothing of it is handed out
+  lent′ : Lent d′ fields
+  lent′ =
+      record {
+        head = rw (length-set (d .head) have x) (lent .head);
+        block = lent .block;
+        question = lent .question;
+        line = lent .line;
+        value = λ name.
+            let e = lent .value name in
+            rw (early, handed-none (set (d .head) have x) name) (rw (early, handed-none (d .head) name) at e);
+      }
+
+  abbrev message : List ℕ
+  message = signingString (headOf l)
+
+  seen-is : (e : Desk) → e .question ≡ message ++ drop (length message) (d .question)
+      → wordSeen (W.Question (length message) (numberOf (trustedBy ring (headOf l)))) (headSignature (headOf l)) e ≡ event (question (headQuestion ring (headOf l)))
+  unfolding wordSeen headQuestion showOf
+  seen-is e q = rw (q, take-append-seam message (drop (length message) (d .question)))
+
+  abbrev asks : Reader
+  asks =
+      asking (d′ .reader) (have + 1) (decimalValue (statusDigits (headOf l))) (blockSize (headOf l)) (numberOf (trustedBy ring (headOf l)))
+      (padded idLimit (injectionId (headOf l))) (length (injectionId (headOf l)))
+
+  kept : Keeps asks (showOf ring (headOf l))
+  unfolding showOf padded
+  kept = record { id = take-append-seam (injectionId (headOf l)) _; size = refl; key = refl }
+
+  question-follows : headFault ring l ≡ 0 → length l ≤ length (d .question) → SoundSays (acceptHead ring (headOf l)) → Gathered (set (d .head) have x) (have + 1) l
+      → Follows ring fields (judgedAt d′ (have + 1) (J.asked (numberOf (trustedBy ring (headOf l))) (headOf l) (d .question))) (rule (acceptHead ring (headOf l)))
+  unfolding headAnswered J.asked acceptHead
+  question-follows e m h a =
+      F.says (seen-is _ refl) refl
+      (record {
+        stands =
+            F.headAsked {l = l}
+            (record {
+              bytes = a;
+              good = e;
+              sound = h .1 .1;
+              keeps = kept;
+              status = refl;
+              none = refl;
+              taken = none;
+            });
+        lent = still lent′ _ refl refl refl (front-length message (d .question) (omega (arith, signing-fits ring l e))) refl;
+        taken = none;
+      })
+
+  answered : (fault : ℕ) → headFault ring l ≡ fault → SoundSays (unlessBroken fault (acceptHead ring (headOf l))) → length l ≤ length (d .question)
+      → Gathered (set (d .head) have x) (have + 1) l
+      → Follows ring fields
+      (judgedAt d′ (have + 1)
+      (pick (eqb fault 0)
+      (pick (leb (length l) (length (d .question))) (J.asked (numberOf (trustedBy ring (headOf l))) (headOf l) (d .question)) (judged (noneAsked 3) (d .question)))
+      (judged (noneAsked fault) (d .question))))
+      (rule (unlessBroken fault (acceptHead ring (headOf l))))
+  unfolding headAnswered
+  answered zero e h m a = rw (le-leb (length l) (length (d .question)) m) (question-follows e m h a)
+  answered (suc n) e h m a = rw (ne-eqb (suc n) 0 (λ e. omega arith)) (refuses (suc n) 0 d′ (head-number ring l n e) lent′ none)
+
+  by : (t : Bool) → isWhole C.head l ≡ t → length l ≤ headLimit → Gathered (set (d .head) have x) (have + 1) l
+      → Follows ring fields (pick t (judgedAt d′ (have + 1) (headJudged ring l (d .question))) (on d′)) (gathered (rules ring) t C.head l)
+  unfolding rules judge judgeHead headJudged
+  by true e m a = answered (headFault ring l) refl (judge-sound ring C.head l tt e m) (omega (arith, lent .question)) a
+  by false e m a = F.on (record { stands = F.head early a e; lent = lent′; taken = none })
+
+  pub head-step : Gathered (d .head) have g → isWhole C.head g ≡ false → Follows ring fields (pushHead ring d have x) (step (rules ring) C.head g x)
+  unfolding pushHead headGathered step rules isWhole
+  head-step a e =
+      let m : have < headLimit = rw (a .count) at (short C.head g e) in
+      let h : have < length (d .head) = omega (arith, lent .head) in
+      let c = gather (d .head) g have x a h in
+      rw (lt-leb (length (d .head)) have h, c .bytes) (by (isWholeHead l) refl (at-most C.head g x e) c)

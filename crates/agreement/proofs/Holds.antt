@@ -1,0 +1,108 @@
+-- What holds between calls, and how a call of the reader follows a turn of the machine. Assumes nothing.
+use mathlib.Core.Path.{_≡_, refl, _∙_}
+use mathlib.Core.Bool.{true, false}
+use mathlib.Core.List.{List}
+use Prim.Native.Nat.{ℕ, _≤_}
+use borrow.Author.Tests.{le-leb}
+use lib.ListN.{length, take}
+use Rattle.sections.specs.Reading.{question, Grant}
+use Rattle.sections.specs.Calls.{Word, misused, Out}
+use Rattle.sections.specs.Machine.{running, asked, finished, Turn, refused}
+use Rattle.stream.specs.Events.{Question, Release, LastWord}
+use Rattle.stream.specs.Fields.{valueOf}
+use Rattle.stream.specs.Limits.{headLimit, blockLimit}
+use Rattle.stream.specs.Lines.{Field}
+use Rattle.stream.specs.Ring.{Ring}
+use Rattle.stream.specs.Stream.{Show, Past, Context}
+use Rattle.head.specs.Handing.{handedValue}
+use Rattle.steps.specs.Desk.{Desk}
+use Rattle.steps.specs.declared.state.Phase.{Phase}
+use Rattle.steps.specs.declared.state.Reader.{Reader}
+use Rattle.reader.specs.Call as R
+use Rattle.reader.specs.Call.{areRoomy, fits, isReading, unchanged, takingBack, recalled}
+use Rattle.reader.specs.Parts.{blockPart}
+use Rattle.agreement.specs.Plain.{toldWord, Handed, handedAfter, shows}
+use Rattle.agreement.specs.Run.{isOfCall, wordSeen, seen}
+use Rattle.agreement.proofs.Stands.{Keeps, Counts, Lent, Standing, At, Stands, Under}
+use Rattle.agreement.proofs.Stands as F
+
+-- the reader and its buffers stand for the state, and hand out what is to be handed out
+pub record Holds (ring : Ring) (d : Desk) (h : Handed) (s : Standing) : Type 0 where
+  pub stands : Stands ring d s
+  pub lent : Lent d (h .signed)
+  pub block : take (d .reader .released) (d .block) ≡ h .released
+
+-- a call shows what the machine's turn says, and both go on side by side
+pub record CallFollows (ring : Ring) (h : Handed) (c : R.Call) (t : Turn Context Question Release LastWord) : Type 0 where
+  pub same : seen c ≡ shows (handedAfter h (t .0 .0)) (t .0)
+  pub holds : Holds ring (c .after) (handedAfter h (t .0 .0)) (t .1)
+
+-- ---- what is shown
+
+pub part-is : (b : List ℕ) (n : ℕ) → blockLimit ≤ length b → blockPart b n ≡ take n b
+unfolding blockPart
+part-is b n h = rw (le-leb blockLimit (length b) h)
+
+pub shown : {ring : Ring} (c : R.Call) (h : Handed) (o : Out Question Release LastWord) (s : Standing) → Holds ring (c .after) h s
+    → wordSeen (c .word) (c .signature) (c .after) ≡ toldWord (o .0) → c .taken ≡ o .1 → seen c ≡ shows h o
+unfolding seen
+shown c h o s k w n =
+    let b : blockPart (c .after .block) (c .after .reader .released) ≡ h .released = part-is _ _ (k .lent .block) ∙ k .block in
+    let v : (name : List ℕ) → handedValue (c .after .head) (c .after .reader .accepted) name ≡ valueOf name (h .signed) = k .lent .value in
+    λ i. record { out = (w i, n i); block = b i; value = λ name. v name i }
+
+pub follows : {ring : Ring} {h : Handed} (c : R.Call) (w : Word Question Release LastWord) (n : ℕ) (s : Standing)
+    → Holds ring (c .after) (handedAfter h w) s → wordSeen (c .word) (c .signature) (c .after) ≡ toldWord w → c .taken ≡ n
+    → CallFollows ring h c ((w, n), s)
+follows {h} c w n s k e m = record { same = shown c (handedAfter h w) (w, n) s k e m; holds = k }
+
+-- ---- refusals that change nothing
+
+pub unchanged-follows : {ring : Ring} {h : Handed} (n : ℕ) (d : Desk) (s : Standing) → isOfCall n ≡ true → Holds ring d h s
+    → CallFollows ring h (unchanged n d) (refused n s)
+unfolding wordSeen
+unchanged-follows n d s m k = follows (unchanged n d) (misused n) 0 s k (rw m) refl
+
+-- ---- phases
+
+-- with no block handed out the reader keeps what it kept
+keeps-back : {r : Reader} {s : Show} → Keeps r s → Keeps (takingBack r) s
+keeps-back k = record { id = k .id; size = k .size; key = k .key }
+
+counts-back : {r : Reader} {p : Past} → Counts r p → Counts (takingBack r) p
+counts-back c = record { blocks = c .blocks; hash = c .hash }
+
+under-back : {d : Desk} {s : Show} {p : Past} {size : ℕ} {b : List ℕ} → Under d s p size b → Under (recalled d) s p size b
+under-back u = record { keeps = keeps-back (u .keeps); counts = counts-back (u .counts); sound = u .sound; bytes = u .bytes }
+
+module _ {ring : Ring} {d : Desk} where
+  pub reading-phase : {p : Phase} {c : Context} {g : List ℕ} → At ring d p (running c g) → isReading p ≡ true
+  reading-phase (F.head early a e) = refl
+  reading-phase (F.firstLine k sound none a e) = refl
+  reading-phase (F.blockData k c sound a e) = refl
+  reading-phase (F.dataEnd u a e) = refl
+  reading-phase (F.nextLine u a e) = refl
+  reading-phase (F.trailer most a e) = refl
+
+  pub asked-phase : {p : Phase} {y : Grant Context Release LastWord} → At ring d p (asked y) → isReading p ≡ false
+  asked-phase (F.headAsked a) = refl
+  asked-phase (F.blockAsked a) = refl
+
+  pub finished-phase : {p : Phase} → At ring d p finished → isReading p ≡ false
+  finished-phase F.closed = refl
+  finished-phase F.refused = refl
+
+  -- and stands where it stood
+  pub stands-back : {p : Phase} {c : Context} {g : List ℕ} → At ring d p (running c g) → At ring (recalled d) p (running c g)
+  stands-back (F.head early a e) = F.head early a e
+  stands-back (F.firstLine k sound none a e) = F.firstLine (keeps-back k) sound none a e
+  stands-back (F.blockData k c sound a e) = F.blockData (keeps-back k) (counts-back c) sound a e
+  stands-back (F.dataEnd u a e) = F.dataEnd (under-back u) a e
+  stands-back (F.nextLine u a e) = F.nextLine (under-back u) a e
+  stands-back (F.trailer most a e) = F.trailer most a e
+
+-- ---- loans
+
+pub roomy : {d : Desk} {fields : List Field} → Lent d fields → fits d ≡ true
+unfolding areRoomy
+roomy {d} l = rw (le-leb headLimit (length (d .head)) (l .head), le-leb blockLimit (length (d .block)) (l .block), le-leb headLimit (length (d .question)) (l .question))

@@ -1,0 +1,15 @@
+pub mod Stands
+pub mod Gathering
+pub mod Refusals
+pub mod DataSteps
+pub mod LineSteps
+pub mod NextSteps
+pub mod HeadSteps
+pub mod Bytes
+pub mod Holds
+pub mod Calls
+pub mod Lists
+pub mod Streams
+pub mod Taking
+pub mod FineBytes
+pub mod Misuse

@@ -1,0 +1,128 @@
+-- A byte of the first chunk line, and of the trailer; where a line leads. Assumes nothing.
+use mathlib.Core.Path.{_≡_, refl}
+use mathlib.Core.Bool.{Bool, true, false}
+use mathlib.Core.List.{List, [], _∷_, _++_}
+use Prim.Native.Nat.{ℕ, zero, suc, _+_, _≤_, _<_}
+use native.Mathlib.Omega.{arith}
+use borrow.Author.Tests.{ne-eqb, lt-leb}
+use lib.ListN.{length, set, length-set}
+use Rattle.octets.specs.Choice.{pick}
+use Rattle.sections.specs.Reading.{go, stop}
+use Rattle.sections.specs.Machine.{running, rule, gathered, step}
+use Rattle.chunk.specs.Judging.{lineJudged, unlessFault, goodLine, signatureOf}
+use Rattle.stream.specs.Blocks.{isWholeLine, chunkSize, lineFault}
+use Rattle.stream.specs.Events.{closed, refused}
+use Rattle.stream.specs.Limits.{headLimit, bodyLimit, lineLimit}
+use Rattle.stream.specs.Lines.{Field}
+use Rattle.stream.specs.Ring.{Ring}
+use Rattle.stream.specs.Stream.{Show, Past, nothing, isWhole, announced, unlessBroken, judge, judgeFirstLine, judgeTrailer, rules}
+use Rattle.stream.specs.Stream as C
+use Rattle.stream.specs.Trailer.{isWholeTrailer, isTrailer}
+use Rattle.stream.proofs.Sound.{SoundShow, Sound, not-whole-empty}
+use Rattle.stream.proofs.SoundJudge.{SoundSays, judge-sound}
+use Rattle.steps.specs.Desk.{Desk, desk, inPhase, on, moved, refuse, noSignature}
+use Rattle.steps.specs.Desk as D
+use Rattle.steps.specs.Push.{lined, firstAnswered, firstGathered, pushFirstLine, trailerGathered, pushTrailer}
+use Rattle.steps.specs.Push as Push
+use Rattle.steps.specs.declared.state.Phase.{Phase}
+use Rattle.steps.specs.declared.state.Phase.the-variants as P
+use Rattle.steps.specs.declared.state.Reader.{Reader}
+use Rattle.steps.specs.declared.state.Word.the-variants as W
+use Rattle.agreement.specs.Run.{wordSeen}
+use Rattle.agreement.proofs.Stands.{Gathered, Keeps, Counts, Lent, At, Follows}
+use Rattle.agreement.proofs.Stands as F
+use Rattle.agreement.proofs.Gathering.{none-gathered, gather, short, at-most, still, keeps-on}
+use Rattle.agreement.proofs.Refusals.{refuses, line-number}
+
+-- the phase that a line of so many bytes announces stands for the context that it announces
+pub announced-at : {ring : Ring} (d : Desk) (s : Show) (p : Past) (total n : ℕ) → Keeps (d .reader) s → Counts (d .reader) p
+    → Sound (announced s p total n) → At ring d (Push.announced n total) (running (announced s p total n) [])
+announced-at d s p total zero k c h = F.trailer h (none-gathered (d .block)) (not-whole-empty (C.trailer total) h)
+announced-at d s p total (suc n) k c h = rw (ne-eqb (suc n) 0 (λ e. omega arith)) (F.blockData k c h (none-gathered (d .block)) (not-whole-empty (C.blockData s p (suc n)) h))
+
+-- the same where the reader has counted the total
+pub announced-by : {ring : Ring} (d : Desk) (s : Show) (p : Past) (t total n : ℕ) → t ≡ total → Keeps (d .reader) s → Counts (d .reader) p
+    → Sound (announced s p total n) → At ring d (Push.announced n t) (running (announced s p total n) [])
+announced-by d s p t total n e k c h = rw e (announced-at d s p total n k c h)
+
+-- before the first block
+pub none-before : (r : Reader) → r .number .0 ≡ 0 → Counts r nothing
+none-before r e = record { blocks = e; hash = rw e refl }
+
+module _ (ring : Ring) (fields : List Field) (d : Desk) (x : ℕ) (lent : Lent d fields) (none : d .reader .released ≡ 0) where
+  module _ (s : Show) (k : Keeps (d .reader) s) (sound : SoundShow s) (zero-blocks : d .reader .number .0 ≡ 0) (have : ℕ) (g : List ℕ) where
+    abbrev l : List ℕ
+    l = g ++ x ∷ []
+
+    abbrev d′ : Desk
+    d′ = lined d (P.FirstLine (have + 1)) (set (d .reader .line) have x)
+
+    lent′ : (q : Phase) → Lent (moved d′ q) fields
+    lent′ q = still lent _ refl refl refl refl (length-set (d .reader .line) have x)
+
+    answered : (fault : ℕ) → lineFault (s .size) false true 0 l ≡ fault → SoundSays (unlessBroken fault (go (announced s nothing 0 (chunkSize l))))
+        → Follows ring fields (firstAnswered d′ (unlessFault fault (goodLine (chunkSize l) (signatureOf l)) .answer))
+        (rule (unlessBroken fault (go (announced s nothing 0 (chunkSize l)))))
+    unfolding firstAnswered
+    answered zero e h =
+        F.on
+        (record {
+          stands = announced-at _ s nothing 0 (chunkSize l) (keeps-on _ _ _ k) (none-before _ zero-blocks) h;
+          lent = lent′ _;
+          taken = none;
+        })
+    answered (suc n) e h = refuses (suc n) 0 d′ (line-number (s .size) false true 0 l n e) (lent′ (P.FirstLine (have + 1))) none
+
+    by : (N : ℕ) → N ≡ s .size → (t : Bool) → isWhole (C.firstLine s) l ≡ t → length l ≤ lineLimit
+        → Gathered (set (d .reader .line) have x) (have + 1) l
+        → Follows ring fields (pick t (firstAnswered d′ (lineJudged N false true 0 l .answer)) (on d′)) (gathered (rules ring) t (C.firstLine s) l)
+    unfolding rules judge judgeFirstLine lineJudged
+    by N n true e m a = rw n (answered (lineFault (s .size) false true 0 l) refl (judge-sound ring (C.firstLine s) l sound e m))
+    by N n false e m a =
+        F.on (record { stands = F.firstLine (keeps-on _ _ _ k) sound zero-blocks a e; lent = lent′ _; taken = none })
+
+    pub first-step : Gathered (d .reader .line) have g → isWhole (C.firstLine s) g ≡ false
+        → Follows ring fields (pushFirstLine d have x) (step (rules ring) (C.firstLine s) g x)
+    unfolding pushFirstLine firstGathered step rules isWhole
+    first-step a e =
+        let m : have < lineLimit = rw (a .count) at (short (C.firstLine s) g e) in
+        let b = gather (d .reader .line) g have x a (rw (lent .line) m) in
+        rw (lt-leb lineLimit have m, b .bytes) (by (d .reader .«block_size») (k .size) (isWholeLine l) refl (at-most (C.firstLine s) g x e) b)
+
+  -- ---- the trailer
+
+  module _ (have total : ℕ) (g : List ℕ) (most : total ≤ bodyLimit) where
+    abbrev text : List ℕ
+    text = g ++ x ∷ []
+
+    abbrev after : Desk
+    after = desk (inPhase (d .reader) (P.Trailer (have + 1) total)) (d .head) (set (d .block) have x) (d .question)
+
+    lent-after : (q : Phase) → Lent (moved after q) fields
+    lent-after q = still lent _ refl refl (length-set (d .block) have x) refl refl
+
+    closed-by : (t : Bool)
+        → Follows ring fields (pick t (D.stop (W.Closed total) noSignature (moved after (P.Closed total))) (refuse 6 (have + 1) after))
+        (rule (elim t [ true ↦ stop (closed total) | false ↦ stop (refused 6) ]))
+    unfolding wordSeen
+    closed-by true = F.says refl refl (record { stands = F.closed; lent = lent-after _; taken = none })
+    closed-by false = refuses 6 (have + 1) after (omega arith) (lent-after (P.Trailer (have + 1) total)) none
+
+    trailer-by : (t : Bool) → isWhole (C.trailer total) text ≡ t → Gathered (set (d .block) have x) (have + 1) text
+        → Follows ring fields
+        (pick t
+        (pick (isTrailer text) (D.stop (W.Closed total) noSignature (moved after (P.Closed total))) (refuse 6 (have + 1) after))
+        (on after))
+        (gathered (rules ring) t (C.trailer total) text)
+    unfolding rules judge judgeTrailer
+    trailer-by true e a = closed-by (isTrailer text)
+    trailer-by false e a = F.on (record { stands = F.trailer most a e; lent = lent-after _; taken = none })
+
+    pub trailer-step : Gathered (d .block) have g → isWhole (C.trailer total) g ≡ false
+        → Follows ring fields (pushTrailer d have total x) (step (rules ring) (C.trailer total) g x)
+    unfolding pushTrailer trailerGathered step rules isWhole
+    trailer-step a e =
+        let m : have < headLimit = rw (a .count) at (short (C.trailer total) g e) in
+        let h : have < length (d .block) = omega (arith, lent .block) in
+        let b = gather (d .block) g have x a h in
+        rw (lt-leb (length (d .block)) have h, b .bytes) (trailer-by (isWholeTrailer text) refl b)

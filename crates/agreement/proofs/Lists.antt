@@ -1,0 +1,146 @@
+-- Lists of calls: the reader's run shows what the plain reading shows. Assumes nothing.
+use mathlib.Core.Path.{_≡_, refl, ap, _∙_}
+use mathlib.Core.Bool.{Bool, true, false, _&&_}
+use mathlib.Core.List.{List, [], _∷_}
+use Prim.Native.Nat.{ℕ}
+use borrow.Author.Tests.{leb-true}
+use lib.Dec.{leb}
+use lib.ListN.{length, length-replicate}
+use Rattle.octets.specs.Choice.{pick}
+use Rattle.ring.specs.Keys.{ringOf}
+use Rattle.ring.specs.declared.KeyRing.{KeyRing}
+use Rattle.sections.specs.Calls.{Request, feed, answer, end, misused}
+use Rattle.sections.specs.Calls as S
+use Rattle.sections.specs.Machine.{running, Turn, turn, runCalls}
+use Rattle.sections.specs.Machine as M
+use Rattle.sections.proofs.Cutting.{calls-agree}
+use Rattle.stream.specs.Events.{Question, Release, LastWord}
+use Rattle.stream.specs.Fields.{valueOf}
+use Rattle.stream.specs.Limits.{headLimit, blockLimit, lineLimit, ringLimit}
+use Rattle.stream.specs.Stream.{Context, rules}
+use Rattle.stream.specs.Stream as C
+use Rattle.stream.proofs.Sound.{not-whole-empty}
+use Rattle.stream.proofs.Truth.{left-holds, right-holds}
+use Rattle.head.specs.Handing.{handedValue}
+use Rattle.head.proofs.ValueLaws.{handed-none}
+use Rattle.steps.specs.Desk.{Desk, desk}
+use Rattle.steps.specs.declared.state.Reader.{Reader}
+use Rattle.reader.specs.Call as R
+use Rattle.reader.specs.Call.{areRoomy, fits, isReading, unchanged, recalled}
+use Rattle.reader.specs.Feed.{takenFrom, feedOf}
+use Rattle.reader.specs.Answer.{answerOf, endOf}
+use Rattle.reader.specs.Parts.{freshReader, blockPart}
+use Rattle.agreement.specs.Plain.{Handed, nothing, handedAfter, shows, showing, plainlyShown}
+use Rattle.agreement.specs.Run.{ringFits, loanFits, Call, same, other, called, aside, runCall, wordSeen, seen, runFrom, run, plainCall, plainCalls}
+use Rattle.agreement.proofs.Stands.{Standing}
+use Rattle.agreement.proofs.Stands as F
+use Rattle.agreement.proofs.Gathering.{none-gathered}
+use Rattle.agreement.proofs.Holds.{Holds, CallFollows, unchanged-follows, roomy}
+use Rattle.agreement.proofs.Calls.{feed-follows, answer-follows, end-follows}
+
+-- ---- one call
+
+neither : (t : Bool) → t && true ≡ false → t ≡ false
+neither true e = e
+neither false e = refl
+
+-- REFUSAL 2: a loan that will not do changes nothing, whatever the reader
+pub misfit-unchanged : (r : Reader) (h b q : List ℕ) (keys : KeyRing) (k : Request) → loanFits h b q keys k ≡ false
+    → called keys (desk r h b q) k ≡ unchanged 2 (desk r h b q)
+unfolding loanFits feedOf answerOf endOf
+misfit-unchanged r h b q keys (feed piece) e = rw e
+misfit-unchanged r h b q keys (answer good) e = rw (neither (areRoomy h b q) e)
+misfit-unchanged r h b q keys end e = rw (neither (areRoomy h b q) e)
+
+called-follows : (keys : KeyRing) (d : Desk) (h : Handed) (s : Standing) (k : Request) → Holds (ringOf keys) d h s
+    → CallFollows (ringOf keys) h (called keys d k) (turn (rules (ringOf keys)) s (S.call (ringFits keys k) k))
+unfolding turn feedOf answerOf endOf
+called-follows keys d h s (feed piece) k = rw (roomy (k .lent)) (by (leb (keys .count) ringLimit))
+  where
+    by : (t : Bool)
+        → CallFollows (ringOf keys) h (pick t (pick (isReading (d .reader .phase)) (takenFrom (ringOf keys) (recalled d) piece) (unchanged 1 d)) (unchanged 2 d)) (turn (rules (ringOf keys)) s (S.call t (feed piece)))
+    by true = feed-follows (ringOf keys) h d s piece k
+    by false = unchanged-follows 2 d s refl k
+called-follows keys d h s (answer good) k = rw (roomy (k .lent)) (answer-follows (ringOf keys) h d (d .reader .phase) s good k (k .stands))
+called-follows keys d h s end k = rw (roomy (k .lent)) (end-follows (ringOf keys) h d s k)
+
+-- a call with other buffers, which will not do, leaves ours as they are
+aside-unchanged : (d : Desk) (h b q : List ℕ) (keys : KeyRing) (k : Request) → loanFits h b q keys k ≡ false
+    → aside keys d (desk (d .reader) h b q) k ≡ unchanged 2 d
+aside-unchanged d h b q keys k e = rw (misfit-unchanged (d .reader) h b q keys k e)
+
+-- where the buffers are too short, every call is refused with 2 and nothing is handed out
+record Idle (d : Desk) (h : Handed) : Type 0 where
+  short : fits d ≡ false
+  block : blockPart (d .block) (d .reader .released) ≡ h .released
+  value : (name : List ℕ) → handedValue (d .head) (d .reader .accepted) name ≡ valueOf name (h .signed)
+
+idle-shown : (d : Desk) (h : Handed) → Idle d h → seen (unchanged 2 d) ≡ shows h (misused 2, 0)
+unfolding seen wordSeen
+idle-shown d h k = let v = k .value in λ i. record { out = (misused 2, 0); block = k .block i; value = λ name. v name i }
+
+-- ---- a list of calls, from a first loan of the buffers h₀, b₀ and q₀
+
+module _ (keys : KeyRing) (h₀ b₀ q₀ : List ℕ) where
+  -- the reader beside the machine
+  data Beside : Desk → Handed → Standing → Type 0 where
+    fit : {d : Desk} {h : Handed} {s : Standing} → areRoomy h₀ b₀ q₀ ≡ true → Holds (ringOf keys) d h s → Beside d h s
+    idle : {d : Desk} {h : Handed} {s : Standing} → areRoomy h₀ b₀ q₀ ≡ false → Idle d h → Beside d h s
+
+  record Goes (h : Handed) (c : R.Call) (t : Turn Context Question Release LastWord) : Type 0 where
+    shown : seen c ≡ shows (handedAfter h (t .0 .0)) (t .0)
+    beside : Beside (c .after) (handedAfter h (t .0 .0)) (t .1)
+
+  abbrev turned : Standing → Call → Turn Context Question Release LastWord
+  turned s k = turn (rules (ringOf keys)) s (plainCall keys h₀ b₀ q₀ k)
+
+  call-goes : (d : Desk) (h : Handed) (s : Standing) (k : Call) → Beside d h s → Goes h (runCall keys d k) (turned s k)
+  unfolding turn runCall loanFits
+  call-goes d h s (same k) (fit e v) =
+      let c = called-follows keys d h s k v in
+      rw e (record { shown = c .same; beside = fit e (c .holds) })
+  call-goes d h s (same k) (idle e v) =
+      rw (e, misfit-unchanged (d .reader) (d .head) (d .block) (d .question) keys k (rw (v .short) refl))
+      (record { shown = idle-shown d h v; beside = idle e v })
+  call-goes d h s (other h′ b′ q′ keys′ k m) (fit e v) =
+      let c = unchanged-follows 2 d s refl v in
+      rw (aside-unchanged d h′ b′ q′ keys′ k m) (record { shown = c .same; beside = fit e (c .holds) })
+  call-goes d h s (other h′ b′ q′ keys′ k m) (idle e v) =
+      rw (aside-unchanged d h′ b′ q′ keys′ k m) (record { shown = idle-shown d h v; beside = idle e v })
+
+  calls-go : (ks : List Call) (d : Desk) (h : Handed) (s : Standing) → Beside d h s
+      → runFrom keys d ks ≡ showing h (M.runFrom (rules (ringOf keys)) s (plainCalls keys h₀ b₀ q₀ ks))
+  unfolding runFrom M.runFrom showing plainCalls
+  calls-go [] d h s v = refl
+  calls-go (k ∷ ks) d h s v =
+      let g = call-goes d h s k v in
+      λ i. g .shown i ∷ calls-go ks (runCall keys d k .after) (handedAfter h (turned s k .0 .0)) (turned s k .1) (g .beside) i
+
+  fresh-beside : (t : Bool) → areRoomy h₀ b₀ q₀ ≡ t → Beside (desk freshReader h₀ b₀ q₀) nothing (running C.head [])
+  unfolding freshReader areRoomy blockPart valueOf
+  fresh-beside true e =
+      fit e
+      (record {
+        stands = F.head refl (none-gathered h₀) (not-whole-empty C.head tt);
+        lent =
+            record {
+              head = leb-true headLimit (length h₀) (left-holds _ _ e);
+              block = leb-true blockLimit (length b₀) (left-holds _ _ (right-holds (leb headLimit (length h₀)) _ e));
+              question = leb-true headLimit (length q₀) (right-holds (leb blockLimit (length b₀)) _ (right-holds (leb headLimit (length h₀)) _ e));
+              line = length-replicate {A = ℕ} lineLimit 0;
+              value = λ name. handed-none h₀ name;
+            };
+        block = refl;
+      })
+  fresh-beside false e = idle e (record { short = e; block = none (leb blockLimit (length b₀)); value = λ name. handed-none h₀ name })
+    where
+      none : (t : Bool) → _≡_ {A = List ℕ} (pick t [] []) []
+      none true = refl
+      none false = refl
+
+  -- THE RUN: what a caller sees of the reader's calls is what the plain reading shows of them
+  pub run-shown : (ks : List Call) → run keys h₀ b₀ q₀ ks ≡ plainlyShown (ringOf keys) (plainCalls keys h₀ b₀ q₀ ks)
+  unfolding run runCalls plainlyShown
+  run-shown ks =
+      calls-go ks (desk freshReader h₀ b₀ q₀) nothing (running C.head []) (fresh-beside (areRoomy h₀ b₀ q₀) refl)
+      ∙ ap (showing nothing) (calls-agree (rules (ringOf keys)) C.head (plainCalls keys h₀ b₀ q₀ ks))

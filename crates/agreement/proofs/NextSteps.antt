@@ -1,0 +1,161 @@
+-- A byte of the line after a block, which leads to the block's question. Assumes nothing.
+use mathlib.Core.Path.{_≡_, refl, sym}
+use mathlib.Core.Bool.{Bool, true, false}
+use mathlib.Core.List.{List, [], _∷_, _++_}
+use Prim.Native.Nat.{ℕ, zero, suc, _+_, _≤_, _<_}
+use native.Mathlib.Omega.{arith}
+use borrow.Author.Tests.{le-leb, lt-leb}
+use lib.Dec.{eqb}
+use lib.ListN.{length, take, drop, set, length-append, length-drop, length-set}
+use lib.Seq.{take-append-seam}
+use Rattle.octets.specs.Choice.{pick}
+use Rattle.sections.specs.Reading.{question}
+use Rattle.sections.specs.Calls.{event}
+use Rattle.sections.specs.Machine.{asked, rule, gathered, step}
+use Rattle.chunk.specs.Judging.{lineJudged, unlessFault, goodLine, signatureOf}
+use Rattle.chunk.specs.Place.{offsetAt}
+use Rattle.chunk.specs.Writing.{atFront, messageWritten}
+use Rattle.number.specs.Writing.{written}
+use Rattle.stream.specs.Blocks.{isWholeLine, carriesSignature, chunkSize, lineSignature, lineRules, lineFault, chained, blockMessage}
+use Rattle.stream.specs.Limits.{lineLimit, bodyLimit}
+use Rattle.stream.specs.Lines.{Field}
+use Rattle.stream.specs.Ring.{Ring}
+use Rattle.stream.specs.Stream.{Show, Past, isWhole, unlessBroken, judge, blockOffset, bodyWith, blockQuestion, acceptBlock, judgeNextLine, rules}
+use Rattle.stream.specs.Stream as C
+use Rattle.stream.proofs.MessageLaws.{message-length}
+use Rattle.stream.proofs.RulesHold.{rules-hold}
+use Rattle.stream.proofs.Sound.{SoundBlock}
+use Rattle.stream.proofs.SoundJudge.{SoundSays, judge-sound}
+use Rattle.steps.specs.Desk.{Desk, on}
+use Rattle.steps.specs.Push.{lined, offsetNow, nextJudged, hashNow, messageNow, nextAnswered, nextGathered, pushNextLine}
+use Rattle.steps.specs.Push as Push
+use Rattle.steps.specs.declared.state.Phase.the-variants as P
+use Rattle.steps.specs.declared.state.Reader.{Reader}
+use Rattle.steps.specs.declared.state.Word.the-variants as W
+use Rattle.agreement.specs.Run.{wordSeen}
+use Rattle.agreement.proofs.Stands.{Gathered, Keeps, Lent, Under, Follows}
+use Rattle.agreement.proofs.Stands as F
+use Rattle.agreement.proofs.Gathering.{gather, short, at-most, still, keeps-on, under-on}
+use Rattle.agreement.proofs.Refusals.{refuses, line-number}
+
+-- ---- places
+
+-- the places of blocks within the body's limit are far below the largest number
+pub offset-now : (r : Reader) (s : Show) (p : Past) (n : ℕ) → Keeps r s → r .number .0 ≡ p .blocks → SoundBlock s p n → offsetNow r .0 ≡ blockOffset s p
+unfolding offsetAt
+offset-now r s p n k e h = rw (k .size, e) (omega (arith, h .body))
+
+pub body-now : (r : Reader) (s : Show) (p : Past) (b : List ℕ) (n : ℕ) → length b ≡ n → Keeps r s → r .number .0 ≡ p .blocks → SoundBlock s p (length b)
+    → Push.bodyWith r n ≡ bodyWith s p b
+unfolding Push.bodyWith
+body-now r s p b n c k e h = rw (← c, offset-now r s p (length b) k e h) (omega (arith, h .body))
+
+-- ---- a message at the front of a buffer
+
+pub front-fits : (m q : List ℕ) → length m ≤ length q → messageWritten m q ≡ written (length m) (m ++ drop (length m) q)
+unfolding messageWritten atFront
+front-fits m q h = rw (le-leb (length m) (length q) h)
+
+pub front-length : (m q : List ℕ) → length m ≤ length q → length (m ++ drop (length m) q) ≡ length q
+front-length m q h = rw (length-append, length-drop) (omega arith)
+
+-- a line on which a signature is due, and that is good, carries one
+carries : (N : ℕ) (full : Bool) (sofar : ℕ) (l : List ℕ) → lineFault N true full sofar l ≡ 0 → carriesSignature l ≡ true
+unfolding lineFault lineRules
+carries N full sofar l e = rules-hold (lineRules N true full sofar l) refl e .1 .0
+
+module _ (ring : Ring) (fields : List Field) (d : Desk) (x : ℕ) (lent : Lent d fields) (none : d .reader .released ≡ 0)
+    (s : Show) (p : Past) (size : ℕ) (b : List ℕ) (u : Under d s p size b) (have : ℕ) (g : List ℕ) where
+  abbrev l : List ℕ
+  l = g ++ x ∷ []
+
+  abbrev d′ : Desk
+  d′ = lined d (P.NextLine (have + 1) size) (set (d .reader .line) have x)
+
+  abbrev message : List ℕ
+  message = blockMessage (s .id) (blockOffset s p) (chained (p .hash) b)
+
+  lent′ : Lent d′ fields
+  lent′ = still lent _ refl refl refl refl (length-set (d .reader .line) have x)
+
+  fits : length message ≤ length (d .question)
+  fits =
+      let o : blockOffset s p ≤ bodyLimit = omega (arith, u .sound .body) in
+      omega (arith, lent .question, message-length (s .id) (blockOffset s p) (p .hash) b (u .sound .show .short-id) o)
+
+  hash-is : hashNow d′ size ≡ chained (p .hash) b
+  hash-is = rw (u .counts .hash, u .bytes .bytes)
+
+  offset-is : offsetNow (d′ .reader) .0 ≡ blockOffset s p
+  offset-is = offset-now (d′ .reader) s p (length b) (keeps-on _ _ _ (u .keeps)) (u .counts .blocks) (u .sound)
+
+  message-is : messageNow d′ size ≡ written (length message) (message ++ drop (length message) (d .question))
+  unfolding messageNow
+  message-is = rw (hash-is, offset-is, u .keeps .id) (front-fits message (d .question) fits)
+
+  -- the question as it is seen is the reading's
+  seen-is : carriesSignature l ≡ true → (e : Desk) → e .question ≡ messageNow d′ size .bytes
+      → wordSeen (W.Question (messageNow d′ size .count) (d′ .reader .key)) (signatureOf l) e ≡ event (question (blockQuestion s p b l))
+  unfolding wordSeen blockQuestion
+  seen-is c e q =
+      let m : take (messageNow d′ size .count) (e .question) ≡ message =
+      rw (q, message-is) (take-append-seam message (drop (length message) (d .question))) in
+      let t : signatureOf l ≡ lineSignature l = rw c refl in
+      let n : d′ .reader .key ≡ s .keyNumber = u .keeps .key in
+      λ i. event (question (record { message = m i; signature = t i; keyNumber = n i }))
+
+  question-follows : lineFault (s .size) true (eqb (length b) (s .size)) (bodyWith s p b) l ≡ 0 → SoundSays (acceptBlock s p b l)
+      → Follows ring fields (Push.asked d′ size (chunkSize l) (signatureOf l)) (rule (acceptBlock s p b l))
+  unfolding Push.asked acceptBlock
+  question-follows e h =
+      F.says (seen-is (carries (s .size) (eqb (length b) (s .size)) (bodyWith s p b) l e) _ refl) refl
+      (record {
+        stands =
+            F.blockAsked
+            (record {
+              keeps = keeps-on _ _ _ (u .keeps);
+              blocks = u .counts .blocks;
+              hash = hash-is;
+              sound = u .sound;
+              onward = h .1 .1;
+              bytes = u .bytes;
+              taken = none;
+            });
+        lent = still lent′ _ refl refl refl (rw message-is (front-length message (d .question) fits)) refl;
+        taken = none;
+      })
+
+  answered : (fault : ℕ) → lineFault (s .size) true (eqb (length b) (s .size)) (bodyWith s p b) l ≡ fault
+      → SoundSays (unlessBroken fault (acceptBlock s p b l))
+      → Follows ring fields
+      (nextAnswered d′ size (unlessFault fault (goodLine (chunkSize l) (signatureOf l)) .answer) (unlessFault fault (goodLine (chunkSize l) (signatureOf l)) .signature))
+      (rule (unlessBroken fault (acceptBlock s p b l)))
+  unfolding nextAnswered
+  answered zero e h = question-follows e h
+  answered (suc n) e h = refuses (suc n) size d′ (line-number (s .size) true (eqb (length b) (s .size)) (bodyWith s p b) l n e) lent′ none
+
+  judged-is : nextJudged (d′ .reader) size l ≡ lineJudged (s .size) true (eqb (length b) (s .size)) (bodyWith s p b) l
+  unfolding nextJudged
+  judged-is =
+      let e : Push.bodyWith (d′ .reader) size ≡ bodyWith s p b =
+      body-now (d′ .reader) s p b size (u .bytes .count) (keeps-on _ _ _ (u .keeps)) (u .counts .blocks) (u .sound) in
+      let n : size ≡ length b = sym (u .bytes .count) in
+      λ i. lineJudged (u .keeps .size i) true (eqb (n i) (u .keeps .size i)) (e i) l
+
+  by : (t : Bool) → isWhole (C.nextLine s p b) l ≡ t → length l ≤ lineLimit → Gathered (set (d .reader .line) have x) (have + 1) l
+      → Follows ring fields
+      (pick t (nextAnswered d′ size (nextJudged (d′ .reader) size l .answer) (nextJudged (d′ .reader) size l .signature)) (on d′))
+      (gathered (rules ring) t (C.nextLine s p b) l)
+  unfolding rules judge judgeNextLine lineJudged
+  by true e m a =
+      rw judged-is
+      (answered (lineFault (s .size) true (eqb (length b) (s .size)) (bodyWith s p b) l) refl (judge-sound ring (C.nextLine s p b) l (u .sound) e m))
+  by false e m a = F.on (record { stands = F.nextLine (under-on _ _ _ refl refl u) a e; lent = lent′; taken = none })
+
+  pub next-step : Gathered (d .reader .line) have g → isWhole (C.nextLine s p b) g ≡ false
+      → Follows ring fields (pushNextLine d have size x) (step (rules ring) (C.nextLine s p b) g x)
+  unfolding pushNextLine nextGathered step rules isWhole
+  next-step a e =
+      let m : have < lineLimit = rw (a .count) at (short (C.nextLine s p b) g e) in
+      let c = gather (d .reader .line) g have x a (rw (lent .line) m) in
+      rw (lt-leb lineLimit have m, c .bytes) (by (isWholeLine l) refl (at-most (C.nextLine s p b) g x e) c)

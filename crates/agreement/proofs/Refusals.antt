@@ -1,0 +1,66 @@
+-- A final refusal of the reader is one of the machine: no rule of the paper has the number 1 or 2. Assumes nothing.
+use mathlib.Core.Path.{_≡_, refl}
+use mathlib.Core.Bool.{Bool, true, false, _&&_}
+use mathlib.Core.List.{List, [], _∷_, _++_}
+use Prim.Native.Nat.{ℕ, suc, _≤_}
+use native.Mathlib.Omega.{arith}
+use borrow.Author.Tests.{leb-true, ne-eqb}
+use lib.Dec.{leb}
+use Rattle.octets.specs.Choice.{pick}
+use Rattle.sections.specs.Reading.{last}
+use Rattle.sections.specs.Calls.{event}
+use Rattle.sections.specs.Machine.{finished, decides}
+use Rattle.stream.specs.Blocks.{lineRules, lineFault}
+use Rattle.stream.specs.Events.{refused}
+use Rattle.stream.specs.Head.{headOf, textRules, trustRules, headFault}
+use Rattle.stream.specs.Lines.{Field}
+use Rattle.stream.specs.Ring.{Ring}
+use Rattle.stream.specs.Rule.{Rule, firstBroken}
+use Rattle.stream.proofs.Truth.{left-holds, right-holds}
+use Rattle.steps.specs.Desk.{Desk, refuse}
+use Rattle.steps.specs.declared.state.Word.the-variants as W
+use Rattle.steps.proofs.BufferLaws.{length-cleared}
+use Rattle.agreement.specs.Run.{isOfCall, wordSeen}
+use Rattle.agreement.proofs.Stands.{Lent, Follows}
+use Rattle.agreement.proofs.Stands as F
+use Rattle.agreement.proofs.Gathering.{still}
+
+-- ---- numbers
+
+-- every rule has the number m or a higher one
+abbrev allFrom : ℕ → List Rule → Bool
+allFrom m [] = true
+allFrom m (r ∷ rs) = leb m (r .number) && allFrom m rs
+
+broken-from : (m : ℕ) (rs : List Rule) → allFrom m rs ≡ true → 1 ≤ firstBroken rs → m ≤ firstBroken rs
+unfolding firstBroken
+broken-from m [] e h = absurd (omega arith)
+broken-from m (r ∷ rs) e h = by (r .holds) h (broken-from m rs (right-holds (leb m (r .number)) (allFrom m rs) e))
+  where
+    by : (t : Bool) → 1 ≤ pick t (firstBroken rs) (r .number) → (1 ≤ firstBroken rs → m ≤ firstBroken rs) → m ≤ pick t (firstBroken rs) (r .number)
+    by true k ih = ih k
+    by false k ih = leb-true m (r .number) (left-holds (leb m (r .number)) (allFrom m rs) e)
+
+pub line-number : (N : ℕ) (due full : Bool) (sofar : ℕ) (l : List ℕ) (k : ℕ) → lineFault N due full sofar l ≡ suc k → 3 ≤ suc k
+unfolding lineFault lineRules
+line-number N due full sofar l k e = rw e at (broken-from 3 (lineRules N due full sofar l) refl (rw e (omega arith)))
+
+pub head-number : (ring : Ring) (l : List ℕ) (k : ℕ) → headFault ring l ≡ suc k → 3 ≤ suc k
+unfolding headFault textRules trustRules
+head-number ring l k e = rw e at (broken-from 3 (textRules l (headOf l) ++ trustRules ring (headOf l)) refl (rw e (omega arith)))
+
+-- ---- the refusal
+
+pub of-stream : (n : ℕ) → 3 ≤ n → isOfCall n ≡ false
+of-stream n h = rw (ne-eqb n 1 (λ e. omega arith), ne-eqb n 2 (λ e. omega arith))
+
+pub seen-final : (n : ℕ) (signature : List ℕ) (d : Desk) → 3 ≤ n → wordSeen (W.Refused n) signature d ≡ event (last (refused n))
+unfolding wordSeen
+seen-final n signature d h = rw (of-stream n h)
+
+pub refuses : {ring : Ring} {fields : List Field} (n count : ℕ) (d : Desk) → 3 ≤ n → Lent d fields → d .reader .released ≡ 0
+    → Follows ring fields (refuse n count d) (decides (last (refused n)) finished)
+unfolding refuse
+refuses n count d h l z =
+    F.says (seen-final n _ _ h) refl
+    (record { stands = F.refused; lent = still l _ refl refl (length-cleared count (d .block)) refl refl; taken = z })

@@ -1,0 +1,140 @@
+-- How a state of the machine of crate sections, under paper 01's rules, lies in the reader and its buffers. Assumes nothing.
+use mathlib.Core.Path.{_≡_}
+use mathlib.Core.Bool.{Bool, true, false}
+use mathlib.Core.List.{List, []}
+use Prim.Native.Nat.{ℕ, _≤_}
+use lib.Dec.{eqb}
+use lib.ListN.{length, take}
+use Rattle.octets.specs.Choice.{pick}
+use Rattle.sections.specs.Reading.{Event, question, message, last, Grant, granted}
+use Rattle.sections.specs.Machine.{State, running, asked, finished, Step}
+use Rattle.sections.specs.Machine as M
+use Rattle.sections.specs.Calls.{Word, event}
+use Rattle.stream.specs.Blocks.{chained}
+use Rattle.stream.specs.Events.{Question, Release, headAccepted, block, LastWord}
+use Rattle.stream.specs.Fields.{valueOf}
+use Rattle.stream.specs.Head.{headOf, statusDigits, signedOf, headFault}
+use Rattle.stream.specs.Limits.{headLimit, lineLimit, blockLimit, bodyLimit}
+use Rattle.stream.specs.Lines.{Field}
+use Rattle.stream.specs.Numbers.{decimalValue}
+use Rattle.stream.specs.Ring.{Ring}
+use Rattle.stream.specs.Stream.{Show, Past, after, Context, isWhole, announced, showOf, blockOffset, bodyWith}
+use Rattle.stream.specs.Stream as C
+use Rattle.stream.proofs.Sound.{SoundShow, SoundBlock, Sound}
+use Rattle.head.specs.Handing.{handedValue}
+use Rattle.steps.specs.Desk.{Desk, Next}
+use Rattle.steps.specs.Desk as D
+use Rattle.steps.specs.declared.state.Phase.{Phase}
+use Rattle.steps.specs.declared.state.Phase.the-variants as P
+use Rattle.steps.specs.declared.state.Reader.{Reader}
+use Rattle.steps.specs.declared.state.Word as Steps
+use Rattle.agreement.specs.Plain.{toldEvent}
+use Rattle.agreement.specs.Run.{wordSeen}
+
+-- ---- the parts
+
+-- the bytes g are the first n of a buffer
+pub record Gathered (buffer : List ℕ) (n : ℕ) (g : List ℕ) : Type 0 where
+  pub bytes : take n buffer ≡ g
+  pub count : length g ≡ n
+
+-- what the reader keeps of the head
+pub record Keeps (r : Reader) (s : Show) : Type 0 where
+  pub id : take (r .«id_length») (r .id) ≡ s .id
+  pub size : r .«block_size» ≡ s .size
+  pub key : r .key ≡ s .keyNumber
+
+-- and of the blocks before
+pub record Counts (r : Reader) (p : Past) : Type 0 where
+  pub blocks : r .number .0 ≡ p .blocks
+  pub hash : pick (eqb (r .number .0) 0) [] (r .hash) ≡ p .hash
+
+-- the buffers and the line have their room, and the fields are those whose values are handed out
+pub record Lent (d : Desk) (fields : List Field) : Type 0 where
+  pub head : headLimit ≤ length (d .head)
+  pub block : blockLimit ≤ length (d .block)
+  pub question : headLimit ≤ length (d .question)
+  pub line : length (d .reader .line) ≡ lineLimit
+  pub value : (name : List ℕ) → handedValue (d .head) (d .reader .accepted) name ≡ valueOf name fields
+
+-- ---- the states
+
+abbrev pub Standing : Type 0
+Standing = State Context Release LastWord
+
+-- the block b is under way, after the blocks of p
+pub record Under (d : Desk) (s : Show) (p : Past) (size : ℕ) (b : List ℕ) : Type 0 where
+  pub keeps : Keeps (d .reader) s
+  pub counts : Counts (d .reader) p
+  pub sound : SoundBlock s p (length b)
+  pub bytes : Gathered (d .block) size b
+
+module _ (ring : Ring) (d : Desk) where
+  -- the head of the n bytes l is good, and its question open
+  pub record HeadAsked (n : ℕ) (l : List ℕ) : Type 0 where
+    pub bytes : Gathered (d .head) n l
+    pub good : headFault ring l ≡ 0
+    pub sound : SoundShow (showOf ring (headOf l))
+    pub keeps : Keeps (d .reader) (showOf ring (headOf l))
+    pub status : d .reader .status ≡ decimalValue (statusDigits (headOf l))
+    pub none : d .reader .number .0 ≡ 0
+    pub taken : d .reader .released ≡ 0
+
+  pub record BlockAsked (s : Show) (p : Past) (size next : ℕ) (b : List ℕ) : Type 0 where
+    pub keeps : Keeps (d .reader) s
+    pub blocks : d .reader .number .0 ≡ p .blocks
+    pub hash : d .reader .hash ≡ chained (p .hash) b
+    pub sound : SoundBlock s p (length b)
+    pub onward : Sound (announced s (after p b) (bodyWith s p b) next)
+    pub bytes : Gathered (d .block) size b
+    pub taken : d .reader .released ≡ 0
+
+  -- what a yes to either gives
+  abbrev pub headGrant : List ℕ → Grant Context Release LastWord
+  headGrant l = granted (headAccepted (decimalValue (statusDigits (headOf l))) (signedOf (headOf l))) (C.firstLine (showOf ring (headOf l)))
+
+  abbrev pub blockGrant : Show → Past → ℕ → List ℕ → Grant Context Release LastWord
+  blockGrant s p next b = granted (block (blockOffset s p) b) (announced s (after p b) (bodyWith s p b) next)
+
+  -- in the phase, the reader and its buffers stand for the state
+  pub data At : Phase → Standing → Type 0 where
+    head : {n : ℕ} {g : List ℕ} → d .reader .accepted ≡ 0 → Gathered (d .head) n g → isWhole C.head g ≡ false → At (P.Head n) (running C.head g)
+    headAsked : {n : ℕ} {l : List ℕ} → HeadAsked n l → At (P.HeadAsked n) (asked (headGrant l))
+    firstLine : {n : ℕ} {g : List ℕ} {s : Show} → Keeps (d .reader) s → SoundShow s → d .reader .number .0 ≡ 0
+        → Gathered (d .reader .line) n g → isWhole (C.firstLine s) g ≡ false → At (P.FirstLine n) (running (C.firstLine s) g)
+    blockData : {have size : ℕ} {g : List ℕ} {s : Show} {p : Past} → Keeps (d .reader) s → Counts (d .reader) p → SoundBlock s p size
+        → Gathered (d .block) have g → isWhole (C.blockData s p size) g ≡ false → At (P.Data have size) (running (C.blockData s p size) g)
+    dataEnd : {have size : ℕ} {b g : List ℕ} {s : Show} {p : Past} → Under d s p size b
+        → Gathered (d .reader .line) have g → isWhole (C.dataEnd s p b) g ≡ false → At (P.DataEnd have size) (running (C.dataEnd s p b) g)
+    nextLine : {have size : ℕ} {b g : List ℕ} {s : Show} {p : Past} → Under d s p size b
+        → Gathered (d .reader .line) have g → isWhole (C.nextLine s p b) g ≡ false → At (P.NextLine have size) (running (C.nextLine s p b) g)
+    blockAsked : {size next : ℕ} {b : List ℕ} {s : Show} {p : Past} → BlockAsked s p size next b → At (P.BlockAsked size next) (asked (blockGrant s p next b))
+    trailer : {have total : ℕ} {g : List ℕ} → total ≤ bodyLimit
+        → Gathered (d .block) have g → isWhole (C.trailer total) g ≡ false → At (P.Trailer have total) (running (C.trailer total) g)
+    closed : {total : ℕ} → At (P.Closed total) finished
+    refused : {n : ℕ} → At (P.Refused n) finished
+
+-- the reader and its buffers stand for the state
+abbrev pub Stands : Ring → Desk → Standing → Type 0
+Stands ring d s = At ring d (d .reader .phase) s
+
+-- ---- while bytes are taken
+
+-- and no block is handed out
+pub record Reads (ring : Ring) (fields : List Field) (d : Desk) (s : Standing) : Type 0 where
+  pub stands : Stands ring d s
+  pub lent : Lent d fields
+  pub taken : d .reader .released ≡ 0
+
+-- a message releases something; a byte never leads to one
+abbrev pub isRelease : Event Question Release LastWord → Bool
+isRelease (question q) = false
+isRelease (message e) = true
+isRelease (last l) = false
+
+-- what a byte does to the reader is what it does to the machine
+pub data Follows (ring : Ring) (fields : List Field) : Next → Step Context Question Release LastWord → Type 0 where
+  on : {d : Desk} {c : Context} {g : List ℕ} → Reads ring fields d (running c g) → Follows ring fields (D.on d) (M.on c g)
+  says : {d : Desk} {s : Standing} {w : Steps.Word} {signature : List ℕ} {e : Event Question Release LastWord}
+      → wordSeen w signature d ≡ event (toldEvent e) → isRelease e ≡ false → Reads ring fields d s
+      → Follows ring fields (D.stop w signature d) (M.decides e s)

@@ -1,0 +1,71 @@
+-- What the plain reading shows of a list of calls. No reader stands here: only the words and counts that the reading gives, and
+-- what they hand out (paper 01, "How a sitting goes"). Assumes nothing.
+use mathlib.Core.List.{List, [], _∷_}
+use Prim.Native.Nat.{ℕ}
+use lib.ListN.{length}
+use Rattle.sections.specs.Reading.{Event, question, message, last, Log}
+use Rattle.sections.specs.Calls.{Call, Word, more, event, misused, Out, readCalls}
+use Rattle.stream.specs.Events.{Question, Release, headAccepted, block, LastWord}
+use Rattle.stream.specs.Fields.{valueOf}
+use Rattle.stream.specs.Lines.{Field}
+use Rattle.stream.specs.Ring.{Ring}
+use Rattle.stream.specs.Stream.{head, rules}
+use Rattle.agreement.specs.Shown.{Told, Shown}
+use Rattle.agreement.specs.Shown as S
+
+-- ---- words
+
+-- a release, as a caller sees it
+abbrev pub told : Release → Told
+told (headAccepted status fields) = S.headAccepted status (λ name. valueOf name fields)
+told (block offset b) = S.block offset (length b) b
+
+abbrev pub toldEvent : Event Question Release LastWord → Event Question Told LastWord
+toldEvent (question q) = question q
+toldEvent (message e) = message (told e)
+toldEvent (last l) = last l
+
+abbrev pub toldWord : Word Question Release LastWord → Word Question Told LastWord
+toldWord more = more
+toldWord (event e) = event (toldEvent e)
+toldWord (misused n) = misused n
+
+-- events in their order, each with its place
+unfoldable pub toldLog : Log Question Release LastWord → Log Question Told LastWord
+toldLog [] = []
+toldLog (x ∷ log) = (x .0, toldEvent (x .1)) ∷ toldLog log
+
+-- ---- what is handed out
+
+-- the released block, and the signed fields of the accepted head
+pub record Handed : Type 0 where
+  pub released : List ℕ
+  pub signed : List Field
+
+-- at first nothing
+abbrev pub nothing : Handed
+nothing = record { released = []; signed = [] }
+
+-- "until the next feed or end that isn't refused by 1 or 2": no answer is due before one of these, so any call that is not refused
+-- takes the block back; the signed values stay for good
+abbrev pub handedAfter : Handed → Word Question Release LastWord → Handed
+handedAfter h more = record { released = []; signed = h .signed }
+handedAfter h (event (question q)) = record { released = []; signed = h .signed }
+handedAfter h (event (message (headAccepted status fields))) = record { released = []; signed = fields }
+handedAfter h (event (message (block offset b))) = record { released = b; signed = h .signed }
+handedAfter h (event (last l)) = record { released = []; signed = h .signed }
+handedAfter h (misused n) = h
+
+-- ---- calls
+
+abbrev pub shows : Handed → Out Question Release LastWord → Shown
+shows h o = record { out = (toldWord (o .0), o .1); block = h .released; value = λ name. valueOf name (h .signed) }
+
+-- what is shown of one call after the other, where h is handed out before them
+unfoldable pub showing : Handed → List (Out Question Release LastWord) → List Shown
+showing h [] = []
+showing h (o ∷ os) = shows (handedAfter h (o .0)) o ∷ showing (handedAfter h (o .0)) os
+
+-- what the plain reading shows of a list of calls
+unfoldable pub plainlyShown : Ring → List Call → List Shown
+plainlyShown ring ks = showing nothing (readCalls (rules ring) head ks)

@@ -1,0 +1,114 @@
+-- A list of calls of the reader, from a fresh one, and what a caller sees of each: the functions that the contracts of `feed`,
+-- `answer`, `end`, `block_part` and `field_part` name, and nothing else. Assumes nothing.
+use mathlib.Core.Path.{_≡_}
+use mathlib.Core.Bool.{Bool, true, false, _&&_, _||_}
+use mathlib.Core.List.{List, [], _∷_}
+use Prim.Native.Nat.{ℕ}
+use lib.Dec.{eqb, leb}
+use lib.ListN.{take}
+use Rattle.octets.specs.Choice.{pick}
+use Rattle.ring.specs.declared.KeyRing.{KeyRing}
+use Rattle.sections.specs.Reading.{question, message, last}
+use Rattle.sections.specs.Calls.{Request, feed, answer, end, Word, more, event, misused}
+use Rattle.sections.specs.Calls as S
+use Rattle.stream.specs.Events.{Question, LastWord, closed, refused}
+use Rattle.stream.specs.Limits.{ringLimit}
+use Rattle.head.specs.Handing.{handedValue}
+use Rattle.steps.specs.Desk.{Desk, desk}
+use Rattle.steps.specs.declared.state.Word.the-variants as W
+use Rattle.steps.specs.declared.state.Word as Steps
+use Rattle.reader.specs.Call as R
+use Rattle.reader.specs.Call.{areRoomy}
+use Rattle.reader.specs.Feed.{feedOf}
+use Rattle.reader.specs.Answer.{answerOf, endOf}
+use Rattle.reader.specs.Parts.{freshReader, blockPart}
+use Rattle.agreement.specs.Shown.{Told, headAccepted, block, Shown}
+
+-- ---- calls and what they are lent
+
+-- whether a ring will do: only a feed is lent one
+abbrev pub ringFits : KeyRing → Request → Bool
+ringFits ring (feed piece) = leb (ring .count) ringLimit
+ringFits ring (answer good) = true
+ringFits ring end = true
+
+-- whether what a call is lent will do; where not, it is refused with 2
+unfoldable pub loanFits : List ℕ → List ℕ → List ℕ → KeyRing → Request → Bool
+loanFits h b q ring r = areRoomy h b q && ringFits ring r
+
+-- "Calls refused with 2 may be lent anything"; any other is lent the same buffers as last left, and a feed the same ring
+pub data Call : Type 0 where
+  same : Request → Call
+  other : (h b q : List ℕ) (ring : KeyRing) (r : Request) → loanFits h b q ring r ≡ false → Call
+
+-- ---- the run
+
+-- one call, by the functions that the contracts name
+abbrev pub called : KeyRing → Desk → Request → R.Call
+called ring d (feed piece) = feedOf ring d piece
+called ring d (answer good) = answerOf d good
+called ring d end = endOf d
+
+-- the same reader's call with other buffers, which leaves these as they are
+abbrev pub aside : KeyRing → Desk → Desk → Request → R.Call
+aside ring d lent r =
+    let c = called ring lent r in
+    R.call (c .word) (c .taken) (c .signature) (desk (c .after .reader) (d .head) (d .block) (d .question))
+
+unfoldable pub runCall : KeyRing → Desk → Call → R.Call
+runCall ring d (same r) = called ring d r
+runCall ring d (other h b q ring′ r misfit) = aside ring′ d (desk (d .reader) h b q) r
+
+-- ---- what a caller sees
+
+-- "Refusals 1 and 2 answer a call and are no events"
+abbrev pub isOfCall : ℕ → Bool
+isOfCall n = eqb n 1 || eqb n 2
+
+-- any other is final
+abbrev pub refusal : ℕ → Word Question Told LastWord
+refusal n = pick (isOfCall n) (misused n) (event (last (refused n)))
+
+-- what `block_part` and `field_part` hand out
+abbrev pub blockSeen : Desk → List ℕ
+blockSeen d = blockPart (d .block) (d .reader .released)
+
+abbrev pub valueSeen : Desk → List ℕ → List ℕ
+valueSeen d name = handedValue (d .head) (d .reader .accepted) name
+
+-- the word, with the signature, and the reader and the buffers after the call: a question's message lies at the front of its buffer
+unfoldable pub wordSeen : Steps.Word → List ℕ → Desk → Word Question Told LastWord
+wordSeen W.More signature d = more
+wordSeen (W.Question n key) signature d = event (question (record { message = take n (d .question); signature = signature; keyNumber = key }))
+wordSeen (W.Head status) signature d = event (message (headAccepted status (valueSeen d)))
+wordSeen (W.Block offset n) signature d = event (message (block (offset .0) n (blockSeen d)))
+wordSeen (W.Closed total) signature d = event (last (closed total))
+wordSeen (W.Refused n) signature d = refusal n
+
+unfoldable pub seen : R.Call → Shown
+seen c =
+    record {
+      out = (wordSeen (c .word) (c .signature) (c .after), c .taken);
+      block = blockSeen (c .after);
+      value = valueSeen (c .after);
+    }
+
+-- one call after the other, each with the reader and the buffers that the one before left
+unfoldable pub runFrom : KeyRing → Desk → List Call → List Shown
+runFrom ring d [] = []
+runFrom ring d (k ∷ ks) = seen (runCall ring d k) ∷ runFrom ring (runCall ring d k .after) ks
+
+-- a list of calls from a fresh reader, lent buffers of any first content
+unfoldable pub run : KeyRing → List ℕ → List ℕ → List ℕ → List Call → List Shown
+run ring h b q ks = runFrom ring (desk freshReader h b q) ks
+
+-- ---- the same calls, for the plain reading
+
+-- A call asks what it asks; its loan will do or not. The buffers keep their lengths, so the first ones tell.
+abbrev pub plainCall : KeyRing → List ℕ → List ℕ → List ℕ → Call → S.Call
+plainCall ring h b q (same r) = S.call (loanFits h b q ring r) r
+plainCall ring h b q (other h′ b′ q′ ring′ r misfit) = S.call false r
+
+unfoldable pub plainCalls : KeyRing → List ℕ → List ℕ → List ℕ → List Call → List S.Call
+plainCalls ring h b q [] = []
+plainCalls ring h b q (k ∷ ks) = plainCall ring h b q k ∷ plainCalls ring h b q ks

@@ -1,0 +1,24 @@
+-- What a caller sees of a call (paper 01, "The plain reading": "Compared are each call's word with all it carries, the counts taken,
+-- a question's message, and the handed-out parts"). Assumes nothing.
+use mathlib.Core.List.{List, [], _∷_}
+use Prim.Native.Nat.{ℕ}
+use Rattle.sections.specs.Calls.{Out}
+use Rattle.stream.specs.Events.{Question, LastWord}
+
+-- what *head accepted* and *block* carry, and what is handed out with them: the status, and the value of a field by its name; the
+-- offset and the length, and the block
+pub data Told : Type 0 where
+  headAccepted : ℕ → (List ℕ → List ℕ) → Told
+  block : ℕ → ℕ → List ℕ → Told
+
+-- the word with all that it carries, and the count taken; then, as they are handed out after the call, the released block and the
+-- value of a field by its name
+pub record Shown : Type 0 where
+  pub out : Out Question Told LastWord
+  pub block : List ℕ
+  pub value : List ℕ → List ℕ
+
+-- the words and the counts alone
+unfoldable pub outs : List Shown → List (Out Question Told LastWord)
+outs [] = []
+outs (s ∷ ss) = s .out ∷ outs ss
