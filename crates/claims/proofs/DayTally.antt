@@ -1,0 +1,102 @@
+-- THE DAY TALLY. Over any list of calls the tally's counts are those of the plain reading's events, each cut to its largest value.
+-- Assumes nothing.
+use mathlib.Core.Path.{_≡_, refl, sym, ap, _∙_}
+use mathlib.Core.Bool.{Bool, true, false}
+use mathlib.Core.List.{List, [], _∷_, _++_}
+use Prim.Native.Nat.{ℕ, _+_}
+use native.Mathlib.Nat.{zero-add}
+use Rattle.octets.specs.Choice.{pick}
+use Rattle.ring.specs.Keys.{ringOf}
+use Rattle.ring.specs.declared.KeyRing.{KeyRing}
+use Rattle.sections.specs.Reading.{Event, question, message, last, Log}
+use Rattle.sections.specs.Calls.{Word, more, event, misused}
+use Rattle.sections.specs.Resuming.{entry, placed, endHeard}
+use Rattle.stream.specs.Events.{Question, Release, headAccepted, block, LastWord, closed, refused}
+use Rattle.stream.specs.Stream.{plainReading}
+use Rattle.steps.specs.Desk.{Desk, desk}
+use Rattle.steps.specs.declared.state.Word as Steps
+use Rattle.steps.specs.declared.state.Word.the-variants as W
+use Rattle.reader.specs.Parts.{freshReader}
+use Rattle.agreement.specs.Shown.{Told, outs}
+use Rattle.agreement.specs.Shown as S
+use Rattle.agreement.specs.Plain.{toldEvent, toldLog}
+use Rattle.agreement.specs.Run.{Call, isOfCall, wordSeen, seen, runCall, runFrom, run, plainCalls}
+use Rattle.tally.specs.Counting.{noCounts, tallied}
+use Rattle.tally.specs.Counts.{Counts, counts, nothing, together, shown, refusalCounts, eventCounts, countsOf, wordCounts, wordsCount}
+use Rattle.tally.proofs.Totals.{tally-of-words}
+use Rattle.claims.specs.Words.{wordsFrom, wordsOfRun}
+use Rattle.claims.proofs.Demand2.{taken, run-reads}
+use Rattle.claims.proofs.Demand3.{words, answers}
+
+-- what a told event adds, and a word as it is seen
+abbrev eventTold : Event Question Told LastWord → Counts
+eventTold (question q) = nothing
+eventTold (message (S.headAccepted status value)) = nothing
+eventTold (message (S.block o n b)) = counts 1 n 0 0
+eventTold (last (closed total)) = counts 0 0 1 0
+eventTold (last (refused n)) = refusalCounts n
+
+abbrev wordTold : Word Question Told LastWord → Counts
+wordTold more = nothing
+wordTold (event e) = eventTold e
+wordTold (misused n) = nothing
+
+refusal-counts : (n : ℕ) (t : Bool) → isOfCall n ≡ t → refusalCounts n ≡ wordTold (pick t (misused n) (event (last (refused n))))
+refusal-counts n true e = rw e
+refusal-counts n false e = refl
+
+word-seen : (w : Steps.Word) (signature : List ℕ) (d : Desk) → wordCounts w ≡ wordTold (wordSeen w signature d)
+unfolding wordCounts wordSeen
+word-seen W.More signature d = refl
+word-seen (W.Question n key) signature d = refl
+word-seen (W.Head status) signature d = refl
+word-seen (W.Block o n) signature d = refl
+word-seen (W.Closed total) signature d = refl
+word-seen (W.Refused n) signature d = refusal-counts n (isOfCall n) refl
+
+-- ---- of a run
+
+abbrev logTold : Log Question Told LastWord → Counts
+logTold [] = nothing
+logTold (x ∷ log) = together (eventTold (x .1)) (logTold log)
+
+none-first : (c : Counts) → together nothing c ≡ c
+none-first c = λ i. counts (zero-add (c .blocks) i) (zero-add (c .bytes) i) (zero-add (c .closed) i) (zero-add (c .refused) i)
+
+-- a word adds to the log what it counts
+entry-counts : (at : ℕ) (w : Word Question Told LastWord) (log : Log Question Told LastWord) → logTold (entry at w ++ log) ≡ together (wordTold w) (logTold log)
+entry-counts at more log = sym (none-first (logTold log))
+entry-counts at (event e) log = refl
+entry-counts at (misused n) log = sym (none-first (logTold log))
+
+words-counted : (keys : KeyRing) (d : Desk) (ks : List Call) (at : ℕ) → wordsCount (wordsFrom keys d ks) ≡ logTold (placed at (outs (runFrom keys d ks)))
+unfolding wordsCount wordsFrom placed outs runFrom seen
+words-counted keys d [] at = refl
+words-counted keys d (k ∷ ks) at =
+    let c = runCall keys d k in
+    let e = words-counted keys (c .after) ks (at + c .taken) in
+    rw (word-seen (c .word) (c .signature) (c .after), e, entry-counts (at + c .taken) (wordSeen (c .word) (c .signature) (c .after)))
+
+told-counts : (log : Log Question Release LastWord) → logTold (toldLog log) ≡ countsOf log
+unfolding toldLog countsOf eventCounts
+told-counts [] = refl
+told-counts (x ∷ log) = rw (one (x .1), told-counts log)
+  where
+    one : (e : Event Question Release LastWord) → eventTold (toldEvent e) ≡ eventCounts e
+    one (question q) = refl
+    one (message (headAccepted status fields)) = refl
+    one (message (block o b)) = refl
+    one (last (closed total)) = refl
+    one (last (refused n)) = refl
+
+module _ (keys : KeyRing) (h b q : List ℕ) (ks : List Call) where
+  -- the events of the plain reading of what the run took
+  abbrev pub eventsRead : Log Question Release LastWord
+  eventsRead = plainReading (ringOf keys) (taken keys h b q ks) (answers keys h b q ks) (endHeard (plainCalls keys h b q ks) (words keys h b q ks))
+
+  -- A tally that is zero at first, and is given the word of each call of any list, shows what these events come to.
+  pub day-tally : tallied noCounts (wordsOfRun keys h b q ks) ≡ shown (countsOf eventsRead)
+  unfolding wordsOfRun run
+  day-tally =
+      tally-of-words (wordsOfRun keys h b q ks)
+      ∙ ap shown (words-counted keys (desk freshReader h b q) ks 0 ∙ ap logTold (run-reads keys h b q ks) ∙ told-counts eventsRead)

@@ -1,0 +1,57 @@
+-- DEMAND 3. Cutting changes nothing: what a caller sees of any list of calls is what paper 01's plain reading gives, which never
+-- knows where a piece ended. Assumes nothing.
+--
+-- `run keys h b q ks` is what a caller sees of the calls ks from a fresh reader, lent the buffers h, b and q with any first content
+-- and the key ring `keys`: each call's word with all that it carries, the count taken, the question's message as it lies in the
+-- question buffer, and after the call the released block and the value of every field as they are handed out. It is made of the
+-- functions that the contracts of the code name (crate agreement, Run). A call that is refused with 2 may be lent anything.
+-- `plainlyShown` is the same of the plain reading: paper 01, "A list of calls is read so" (crates sections and agreement, Plain).
+use mathlib.Core.Path.{_≡_, ap, sym, _∙_}
+use mathlib.Core.Bool.{Bool, true}
+use mathlib.Core.List.{List}
+use Prim.Native.Nat.{ℕ}
+use Rattle.ring.specs.Keys.{ringOf}
+use Rattle.ring.specs.declared.KeyRing.{KeyRing}
+use Rattle.sections.specs.Calls.{Out, over, standing}
+use Rattle.sections.specs.Resuming.{Resumes, events, answersHeard, Tracks}
+use Rattle.stream.specs.Events.{Question, LastWord}
+use Rattle.stream.specs.Stream.{plainReading}
+use Rattle.agreement.specs.Shown.{Told, outs}
+use Rattle.agreement.specs.Plain.{toldLog, plainlyShown}
+use Rattle.agreement.specs.Run.{Call, run, plainCalls}
+use Rattle.agreement.proofs.Lists.{run-shown}
+use Rattle.agreement.proofs.Streams.{shown-tracks}
+
+module _ (keys : KeyRing) (h b q : List ℕ) where
+  -- the words and the counts of a run
+  abbrev pub words : List Call → List (Out Question Told LastWord)
+  words ks = outs (run keys h b q ks)
+
+  -- the answers that the run heard
+  abbrev pub answers : List Call → List Bool
+  answers ks = answersHeard (plainCalls keys h b q ks) (words ks)
+
+  pub record CuttingChangesNothing (ks : List Call) : Type 0 where
+    -- EVERY LIST OF CALLS, wrongly timed and ill lent ones and empty pieces among them: all that is seen of each call is what
+    -- the plain reading gives.
+    pub each-call : run keys h b q ks ≡ plainlyShown (ringOf keys) (plainCalls keys h b q ks)
+    -- A WHOLE STREAM. Let the pieces go on through a stream S from the first byte not taken, and the end be told only once all is
+    -- taken; refused calls may be anything. Then the events, each with its place and with what it hands out, are a beginning of the
+    -- plain reading of all of S with the answers given, and all of it once a last word has come.
+    pub whole-stream : (S : List ℕ) → Resumes S (plainCalls keys h b q ks) (words ks)
+        → Tracks (events (words ks)) (toldLog (plainReading (ringOf keys) S (answers ks) true))
+
+  pub demand-3 : (ks : List Call) → CuttingChangesNothing ks
+  demand-3 ks =
+      let e = run-shown keys h b q ks in
+      record { each-call = e; whole-stream = λ S r. rw e (shown-tracks (ringOf keys) S (plainCalls keys h b q ks) (rw e at r)) }
+
+  -- HOWEVER IT IS CUT: two runs over one stream with the same answers, that both came to a last word, have the same events at the
+  -- same places, and hand out the same blocks and values.
+  pub two-cuttings : (S : List ℕ) (ks ls : List Call) → Resumes S (plainCalls keys h b q ks) (words ks) → Resumes S (plainCalls keys h b q ls) (words ls)
+      → answers ks ≡ answers ls → standing (events (words ks)) ≡ over → standing (events (words ls)) ≡ over
+      → events (words ks) ≡ events (words ls)
+  two-cuttings S ks ls c d same x y =
+      demand-3 ks .whole-stream S c .complete x
+      ∙ ap (λ (a : List Bool). toldLog (plainReading (ringOf keys) S a true)) same
+      ∙ sym (demand-3 ls .whole-stream S d .complete y)

@@ -1,0 +1,63 @@
+-- THE LENT RING. Demand 3 holds where each feed is lent its ring as a table of records: such a run is the run with the ring by value.
+-- Assumes nothing.
+use mathlib.Core.Path.{_≡_, refl, sym, ap, _∙_}
+use mathlib.Core.Bool.{false}
+use mathlib.Core.List.{List, [], _∷_}
+use Prim.Native.Nat.{ℕ}
+use Rattle.ring.specs.Keys.{ringOf}
+use Rattle.ring.specs.declared.KeyRecord.{KeyRecord}
+use Rattle.sections.specs.Calls.{Request, feed, answer, end}
+use Rattle.lent.specs.Table.{keysOf}
+use Rattle.lent.proofs.TableLaws.{feed-lent, count-fits}
+use Rattle.steps.specs.Desk.{Desk, desk}
+use Rattle.reader.specs.Call as R
+use Rattle.reader.specs.Parts.{freshReader}
+use Rattle.agreement.specs.Plain.{plainlyShown}
+use Rattle.agreement.specs.Run.{ringFits, loanFits, Call, called, runCall, seen, runFrom, run, plainCalls}
+use Rattle.agreement.specs.Run as Run
+use Rattle.claims.specs.Lent.{tableFits, lentFits, LentCall, same, other, lentCalled, lentRunCall, lentRunFrom, lentRun}
+use Rattle.claims.proofs.Demand3.{demand-3}
+
+called-lent : (records : List KeyRecord) (d : Desk) (r : Request) → lentCalled records d r ≡ called (keysOf records) d r
+called-lent records d (feed piece) = sym (feed-lent records d piece)
+called-lent records d (answer good) = refl
+called-lent records d end = refl
+
+fits-lent : (records : List KeyRecord) (r : Request) → tableFits records r ≡ ringFits (keysOf records) r
+fits-lent records (feed piece) = sym (count-fits records)
+fits-lent records (answer good) = refl
+fits-lent records end = refl
+
+pub misfit-lent : (h b q : List ℕ) (records : List KeyRecord) (r : Request) → lentFits h b q records r ≡ false → loanFits h b q (keysOf records) r ≡ false
+unfolding loanFits
+misfit-lent h b q records r e = rw (← fits-lent records r) e
+
+-- the same call, with the ring by value
+abbrev pub byValue : LentCall → Call
+byValue (same r) = Run.same r
+byValue (other h b q records r misfit) = Run.other h b q (keysOf records) r (misfit-lent h b q records r misfit)
+
+abbrev pub allByValue : List LentCall → List Call
+allByValue [] = []
+allByValue (k ∷ ks) = byValue k ∷ allByValue ks
+
+call-lent : (records : List KeyRecord) (d : Desk) (k : LentCall) → lentRunCall records d k ≡ runCall (keysOf records) d (byValue k)
+unfolding lentRunCall runCall
+call-lent records d (same r) = called-lent records d r
+call-lent records d (other h b q records′ r misfit) =
+    ap (λ (c : R.Call). R.call (c .word) (c .taken) (c .signature) (desk (c .after .reader) (d .head) (d .block) (d .question)))
+    (called-lent records′ (desk (d .reader) h b q) r)
+
+run-lent : (records : List KeyRecord) (ks : List LentCall) (d : Desk) → lentRunFrom records d ks ≡ runFrom (keysOf records) d (allByValue ks)
+unfolding lentRunFrom runFrom
+run-lent records [] d = refl
+run-lent records (k ∷ ks) d =
+    let e = call-lent records d k in
+    λ i. seen (e i) ∷ (ap (λ (c : R.Call). lentRunFrom records (c .after) ks) e ∙ run-lent records ks (runCall (keysOf records) d (byValue k) .after)) i
+
+-- What a caller sees of any list of calls with lent tables is what the plain reading gives with the ring of these records.
+pub lent-ring : (records : List KeyRecord) (h b q : List ℕ) (ks : List LentCall)
+    → lentRun records h b q ks ≡ plainlyShown (ringOf (keysOf records)) (plainCalls (keysOf records) h b q (allByValue ks))
+unfolding lentRun run
+lent-ring records h b q ks =
+    run-lent records ks (desk freshReader h b q) ∙ demand-3 (keysOf records) h b q (allByValue ks) .each-call

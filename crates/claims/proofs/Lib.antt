@@ -1,0 +1,6 @@
+pub mod Demand1
+pub mod Demand3
+pub mod Told
+pub mod Demand2
+pub mod DayTally
+pub mod LentRing

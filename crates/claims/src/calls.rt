@@ -1,0 +1,49 @@
+// The reader's calls, with contracts in the words of the claims: `called` is one call of the claims' run, and `blockSeen` and
+// `valueSeen` are what the claims say a caller sees. Each body is the call itself.
+use reader::Outcome;
+use ring::KeyRing;
+use steps::Reader;
+ghost use mathlib.Core.List.{List};
+ghost use mathlib.Core.Path.{_≡_};
+ghost use Prim.Native.Nat.{ℕ};
+ghost use Rattle.sections.specs.Calls as C;
+ghost use Rattle.steps.specs.Desk.{desk};
+ghost use Rattle.reader.specs.Call.{made};
+ghost use Rattle.agreement.specs.Run.{called, blockSeen, valueSeen};
+
+fn feed(
+    r: Reader,
+    head: &mut [u8],
+    block: &mut [u8],
+    question: &mut [u8],
+    ring: KeyRing,
+    piece: &[u8],
+) -> Outcome
+    ensures { λ o. ⌜ made o (now (head .exit)) (now (block .exit)) (now (question .exit)) ≡ called ring (desk r (now (head .entry)) (now (block .entry)) (now (question .entry))) (C.feed (now (piece .entry))) ⌝ }
+{
+    reader::feed(r, head, block, question, ring, piece)
+}
+
+fn answer(r: Reader, head: &mut [u8], block: &mut [u8], question: &mut [u8], good: bool) -> Outcome
+    ensures { λ o. ⌜ ((ring : KeyRing) → made o (now (head .exit)) (now (block .exit)) (now (question .exit)) ≡ called ring (desk r (now (head .entry)) (now (block .entry)) (now (question .entry))) (C.answer good)) ⌝ }
+{
+    reader::answer(r, head, block, question, good)
+}
+
+fn end(r: Reader, head: &mut [u8], block: &mut [u8], question: &mut [u8]) -> Outcome
+    ensures { λ o. ⌜ ((ring : KeyRing) → made o (now (head .exit)) (now (block .exit)) (now (question .exit)) ≡ called ring (desk r (now (head .entry)) (now (block .entry)) (now (question .entry))) C.end) ⌝ }
+{
+    reader::end(r, head, block, question)
+}
+
+fn block_part(r: Reader, block: &[u8]) -> &[u8]
+    ensures { λ part. ⌜ ((h q : List ℕ) → now part ≡ blockSeen (desk r h (now (block .entry)) q)) ⌝ }
+{
+    reader::block_part(block, r.released)
+}
+
+fn field_part<'a>(r: Reader, head: &'a [u8], name: &[u8]) -> &'a [u8]
+    ensures { λ part. ⌜ ((b q : List ℕ) → now part ≡ valueSeen (desk r (now (head .entry)) b q) (now (name .entry))) ⌝ }
+{
+    reader::field_part(head, r.accepted, name)
+}
