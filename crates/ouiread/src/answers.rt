@@ -1,13 +1,17 @@
-// The answers: the letters y and n in order, white space aside, read one at a time as they are needed.
+// The answers: the letters y and n in order, white space aside, read as they are needed.
 use crate::files;
 use crate::files::ANSWERS;
 use crate::lines::following;
-use crate::messages::complain;
+use crate::messages;
 
-// The open file and the line that is read; with a negative number there is none.
+// The open file (with a negative number there is none), the line that is read, and the bytes that were read ahead: of the first
+// `have` in the text, those from `at` on are still to be looked at.
 pub struct Answers {
     pub fd: i32,
     pub line: u64,
+    pub text: [u8; 512],
+    pub at: usize,
+    pub have: usize,
 }
 
 pub enum Letter {
@@ -16,13 +20,32 @@ pub enum Letter {
     LineFeed,
     Space,
     Other,
+    // No letter is left, or none can be read.
     End,
+    Failed,
 }
 
-// An answer (Yes, No), none (End) or a wrong letter (Other), and the line that is read after it.
+// An answer (Yes, No), none (End, Failed) or a wrong letter (Other), and the answers after it.
 pub struct Next {
     pub letter: Letter,
-    pub line: u64,
+    pub answers: Answers,
+}
+
+// A letter in the text, with its line, and the place after it.
+struct Found {
+    letter: Letter,
+    line: u64,
+    next: usize,
+}
+
+fn starting(fd: i32, line: u64) -> Answers {
+    Answers {
+        fd,
+        line,
+        text: [0; 512],
+        at: 0,
+        have: 0,
+    }
 }
 
 fn letter_of(b: u8) -> Letter {
@@ -35,23 +58,16 @@ fn letter_of(b: u8) -> Letter {
     }
 }
 
-fn read_letter(fd: i32) -> Letter {
-    let mut one = [0u8; 1];
-    let got = libc::read(fd, &mut one);
-    if got <= 0 {
-        return Letter::End;
-    }
-    letter_of(one[0])
-}
-
-fn is_white(l: Letter) -> bool {
+// Whether a letter is passed over: white space always, an answer where all are.
+fn is_passed(l: Letter, all: bool) -> bool {
     match l {
-        Letter::Yes => false,
-        Letter::No => false,
+        Letter::Yes => all,
+        Letter::No => all,
         Letter::LineFeed => true,
         Letter::Space => true,
         Letter::Other => false,
         Letter::End => false,
+        Letter::Failed => false,
     }
 }
 
@@ -63,58 +79,96 @@ fn line_after(l: Letter, line: u64) -> u64 {
     line
 }
 
-// The next letter that is no white space.
-pub fn next_letter(a: Answers) -> Next {
+// The first letter from a place on that is not passed over; white space where there is none.
+fn find(text: &[u8], from: usize, line: u64, all: bool) -> Found {
+    let mut at = from;
+    let mut now = line;
+    while at < text.len() {
+        let letter = letter_of(text[at]);
+        at += 1;
+        if !is_passed(letter, all) {
+            return Found {
+                letter,
+                line: now,
+                next: at,
+            };
+        }
+        now = line_after(letter, now);
+    }
+    Found {
+        letter: Letter::Space,
+        line: now,
+        next: at,
+    }
+}
+
+// The next letter that is not passed over. A read that brings no byte, or fails, stands for a letter of its own.
+fn seek(a: Answers, all: bool) -> Next {
     let fd = a.fd;
+    let mut text = a.text;
+    let mut at = a.at;
+    let mut have = a.have;
     let mut line = a.line;
     let mut turns = u64::MAX;
     while turns > 0 {
         turns -= 1;
-        let letter = read_letter(fd);
-        if !is_white(letter) {
-            return Next { letter, line };
+        let found = find(fields::part(&text, 0, have), at, line, all);
+        let letter = found.letter;
+        line = found.line;
+        at = found.next;
+        if !is_passed(letter, all) {
+            return after(letter, fd, line, text, at, have);
         }
-        line = line_after(letter, line);
+        let got = libc::read(fd, &mut text);
+        if got <= 0 {
+            return after(lack(got), fd, line, text, 0, 0);
+        }
+        have = io::count(got, &text);
+        at = 0;
     }
-    Next {
-        letter: Letter::End,
-        line,
-    }
+    after(Letter::End, fd, line, text, 0, 0)
 }
 
-fn is_answer(l: Letter) -> bool {
-    match l {
-        Letter::Yes => true,
-        Letter::No => true,
+fn after(letter: Letter, fd: i32, line: u64, text: [u8; 512], at: usize, have: usize) -> Next {
+    let answers = Answers {
+        fd,
+        line,
+        text,
+        at,
+        have,
+    };
+    Next { letter, answers }
+}
+
+// What a read that brings no byte stands for.
+fn lack(got: isize) -> Letter {
+    if got < 0 {
+        return Letter::Failed;
+    }
+    Letter::End
+}
+
+pub fn next_letter(a: Answers) -> Next {
+    seek(a, false)
+}
+
+// Tells what is wrong with the answers, where a letter says that something is.
+pub fn tell(letter: Letter, line: u64) -> bool {
+    match letter {
+        Letter::Yes => false,
+        Letter::No => false,
         Letter::LineFeed => false,
         Letter::Space => false,
-        Letter::Other => false,
-        Letter::End => false,
-    }
-}
-
-// What stands after all answers: the end, or a wrong letter.
-fn last(a: Answers) -> Next {
-    let fd = a.fd;
-    let mut line = a.line;
-    let mut turns = u64::MAX;
-    while turns > 0 {
-        turns -= 1;
-        let n = next_letter(Answers { fd, line });
-        let letter = n.letter;
-        if !is_answer(letter) {
-            return n;
+        Letter::Other => {
+            messages::complain(ANSWERS, line, b"an answer is y or n");
+            true
         }
-        line = n.line;
+        Letter::End => false,
+        Letter::Failed => {
+            messages::unread(ANSWERS);
+            true
+        }
     }
-    Next {
-        letter: Letter::End,
-        line,
-    }
-}
-
-pub fn wrong(line: u64) {
-    complain(ANSWERS, line, b"an answer is y or n");
 }
 
 // Opens the answers. A file is gone over once beforehand, so that a wrong letter is told before any event; a pipe can be read only
@@ -122,20 +176,16 @@ pub fn wrong(line: u64) {
 pub fn open() -> Answers {
     let fd = files::open(ANSWERS);
     if fd < 0 {
-        return Answers { fd, line: 0 };
+        return starting(fd, 0);
     }
     if libc::lseek(fd, 0, libc::SEEK_SET) < 0 {
-        return Answers { fd, line: 1 };
+        return starting(fd, 1);
     }
-    let n = last(Answers { fd, line: 1 });
+    let n = seek(starting(fd, 1), true);
     let letter = n.letter;
-    if let Letter::Other = letter {
-        wrong(n.line);
-        return Answers {
-            fd: files::FAILED,
-            line: 0,
-        };
+    if tell(letter, n.answers.line) {
+        return starting(files::FAILED, 0);
     }
     libc::lseek(fd, 0, libc::SEEK_SET);
-    Answers { fd, line: 1 }
+    starting(fd, 1)
 }

@@ -1,4 +1,6 @@
 // The files, by the number of the argument that names each.
+use crate::filling::fill;
+use crate::messages::unread;
 
 // The arguments: STREAM RING ANSWERS [CUTS [BODY]].
 pub const STREAM: usize = 1;
@@ -42,9 +44,13 @@ pub fn load(i: usize, text: &mut [u8]) -> Loaded {
     if fd < 0 {
         return Loaded::Nothing;
     }
-    let n = io::read_full(fd, text);
+    let filled = fill(fd, text);
     libc::close(fd);
-    Loaded::Text(n)
+    if filled.failed {
+        unread(i);
+        return Loaded::Nothing;
+    }
+    Loaded::Text(filled.count)
 }
 
 // Opens a file to be written, where the argument is there.

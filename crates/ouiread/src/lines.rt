@@ -25,7 +25,7 @@ fn find(text: &[u8], from: usize, byte: u8) -> usize
 }
 
 // The part that begins at a place.
-pub fn cut_off(text: &[u8], from: usize, byte: u8) -> Cutting
+pub(crate) fn cut_off(text: &[u8], from: usize, byte: u8) -> Cutting
     requires { ⌜ from < length (now text) ⌝ }
     ensures { λ r. ⌜ from < r .next ⌝ }
     ensures { λ r. ⌜ r .next ≤ length (now (text .entry)) ⌝ }

@@ -3,6 +3,7 @@
 mod answers; // the letters y and n, read as they are needed
 mod cuts; // the lengths of the pieces
 mod files; // the files by the number of their argument
+mod filling; // the next bytes of an open file
 mod lines; // lines and their words in a text
 mod messages; // what is written
 mod records; // the key ring's records

@@ -22,35 +22,45 @@ pub fn complain(i: usize, line: u64, what: &[u8]) {
     err(b"\n");
 }
 
-fn say(text: &[u8]) {
-    io::write_all(STDOUT_FILENO, text);
+fn say(text: &[u8]) -> bool {
+    io::write_all(STDOUT_FILENO, text)
 }
 
-// An event with its number, as a line.
-pub fn event(word: &[u8], n: u64) {
-    say(word);
-    io::print_decimal(STDOUT_FILENO, n);
-    say(b"\n");
+// An event with its number, as a line. False where it cannot be written.
+pub fn event(word: &[u8], n: u64) -> bool {
+    say(word) && io::print_decimal(STDOUT_FILENO, n) && say(b"\n")
 }
 
-pub fn question(length: usize) {
-    event(b"question ", length as u64);
+pub fn question(length: usize) -> bool {
+    event(b"question ", length as u64)
 }
 
-pub fn refused(number: u8) {
-    event(b"refused ", number as u64);
+pub fn refused(number: u8) -> bool {
+    event(b"refused ", number as u64)
 }
 
-pub fn block(offset: u64, length: usize) {
-    say(b"block ");
-    io::print_decimal(STDOUT_FILENO, offset);
-    event(b" ", length as u64);
+pub fn block(offset: u64, length: usize) -> bool {
+    say(b"block ") && io::print_decimal(STDOUT_FILENO, offset) && event(b" ", length as u64)
 }
 
-// The file that argument i names takes no more.
-pub fn unwritten(i: usize) {
+// The file that argument i names, and what cannot be done with it.
+fn cannot(i: usize, what: &[u8]) {
     let mut path = io::buffer();
     let n = os::arg(i, &mut path);
     io::write_all(STDERR_FILENO, &path[..n]);
-    err(b": cannot be written\n");
+    err(what);
+}
+
+// A read of the file failed: what came of it is not all.
+pub fn unread(i: usize) {
+    cannot(i, b": cannot be read\n");
+}
+
+// The file takes no more.
+pub fn unwritten(i: usize) {
+    cannot(i, b": cannot be written\n");
+}
+
+pub fn lost() {
+    err(b"standard output: cannot be written\n");
 }

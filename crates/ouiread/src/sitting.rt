@@ -33,15 +33,23 @@ fn stopped(s: Sitting) -> Sitting {
     t
 }
 
-fn answered(s: Sitting, line: u64) -> Sitting {
+fn with_answers(s: Sitting, answers: Answers) -> Sitting {
     let reader = s.reader;
-    let fd = s.answers.fd;
     Sitting {
         reader,
-        answers: Answers { fd, line },
+        answers,
         body: s.body,
         stopped: s.stopped,
     }
+}
+
+// Where an event's line could not be written the program goes no further.
+fn written(s: Sitting, good: bool) -> Sitting {
+    if good {
+        return s;
+    }
+    messages::lost();
+    stopped(s)
 }
 
 // A released block goes to the body's file, where one is asked for, and then its line is written.
@@ -49,38 +57,24 @@ fn tell_block(s: Sitting, block: &[u8], offset: u64, length: usize) -> Sitting {
     let body = s.body;
     let released = s.reader.released;
     if body == ABSENT {
-        messages::block(offset, length);
-        return s;
+        return written(s, messages::block(offset, length));
     }
     if !io::write_all(body, reader::block_part(block, released)) {
         messages::unwritten(BODY);
         return stopped(s);
     }
-    messages::block(offset, length);
-    s
+    written(s, messages::block(offset, length))
 }
 
 // Every event but a question.
 fn tell_plain(s: Sitting, block: &[u8], word: Word) -> Sitting {
     match word {
         Word::More => s,
-        Word::Question { length, key: _ } => {
-            messages::question(length);
-            s
-        }
-        Word::Head(status) => {
-            messages::event(b"head ", status);
-            s
-        }
+        Word::Question { length, key: _ } => written(s, messages::question(length)),
+        Word::Head(status) => written(s, messages::event(b"head ", status)),
         Word::Block { offset, length } => tell_block(s, block, offset.0, length),
-        Word::Closed(total) => {
-            messages::event(b"closed ", total);
-            stopped(s)
-        }
-        Word::Refused(number) => {
-            messages::refused(number);
-            stopped(s)
-        }
+        Word::Closed(total) => stopped(written(s, messages::event(b"closed ", total))),
+        Word::Refused(number) => stopped(written(s, messages::refused(number))),
     }
 }
 
@@ -107,19 +101,24 @@ fn ask(
 ) -> Sitting {
     let asked = s.answers;
     let n = answers::next_letter(asked);
-    let t = answered(s, n.line);
     let letter = n.letter;
+    let after = n.answers;
+    let t = with_answers(s, after);
     match letter {
         Letter::Yes => answer(t, head, block, question, true),
         Letter::No => answer(t, head, block, question, false),
         Letter::LineFeed => stopped(t),
         Letter::Space => stopped(t),
-        Letter::Other => {
-            answers::wrong(n.line);
-            stopped(t)
-        }
+        Letter::Other => without(t, letter),
         Letter::End => stopped(t),
+        Letter::Failed => without(t, letter),
     }
+}
+
+// No answer is to be had, and why.
+fn without(s: Sitting, letter: Letter) -> Sitting {
+    answers::tell(letter, s.answers.line);
+    stopped(s)
 }
 
 fn is_question(w: Word) -> bool {
@@ -145,7 +144,7 @@ pub fn tell(
     word: Word,
 ) -> Sitting {
     let t = tell_plain(s, block, word);
-    if is_question(word) {
+    if is_question(word) & !t.stopped {
         return ask(t, head, block, question);
     }
     t

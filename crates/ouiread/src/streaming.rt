@@ -1,5 +1,10 @@
 // The stream, read in pieces of the lengths that are asked for, each fed to its last byte.
 use crate::cuts::cut_at;
+use crate::files::STREAM;
+use crate::filling::Filled;
+use crate::filling::fill;
+use crate::filling::later;
+use crate::messages;
 use crate::sitting::Sitting;
 use crate::sitting::tell;
 use crate::sitting::with_reader;
@@ -48,17 +53,6 @@ fn feed_rest(
     told(s, head, block, question, o)
 }
 
-// The place after more bytes of a piece.
-fn later(at: usize, taken: usize, most: usize) -> usize {
-    if most < at {
-        return most;
-    }
-    if most - at < taken {
-        return most;
-    }
-    at + taken
-}
-
 // Feeds a piece, and what is left of it after each event.
 fn feed_piece(
     s: Sitting,
@@ -84,13 +78,15 @@ fn feed_piece(
     sitting
 }
 
-// Fills the front of the room with the next bytes of the stream, fewer than asked only at its end. A stream that can be read no further
-// ends there.
-fn read_piece(stream: i32, room: &mut [u8], size: usize) -> usize {
+// Fills the front of the room with the next bytes of the stream, fewer than asked at its end or where it can be read no further.
+fn read_piece(stream: i32, room: &mut [u8], size: usize) -> Filled {
     if room.len() < size {
-        return 0;
+        return Filled {
+            count: 0,
+            failed: true,
+        };
     }
-    io::read_full(stream, &mut room[..size])
+    fill(stream, &mut room[..size])
 }
 
 // Tells the reader that no bytes will follow.
@@ -102,7 +98,8 @@ fn finish(s: Sitting, head: &mut [u8; 8192], block: &mut [u8; 65536], question: 
     tell(with_reader(s, after), head, block, question, word);
 }
 
-// Reads the stream to its end, or until the program goes no further.
+// Reads the stream to its end, or until the program goes no further. The end is told only where it was seen: what came before a
+// read that fails is fed like the rest, and then the failure is told.
 pub fn read_all(
     s: Sitting,
     head: &mut [u8; 8192],
@@ -120,19 +117,23 @@ pub fn read_all(
         turns -= 1;
         let cut = cut_at(cuts, place);
         place = cut.next;
-        let n = read_piece(stream, piece, cut.size);
+        let filled = read_piece(stream, piece, cut.size);
         sitting = feed_piece(
             sitting,
             head,
             block,
             question,
             ring,
-            fields::part(piece, 0, n),
+            fields::part(piece, 0, filled.count),
         );
         if sitting.stopped {
             return;
         }
-        if n < cut.size {
+        if filled.failed {
+            messages::unread(STREAM);
+            return;
+        }
+        if filled.count < cut.size {
             finish(sitting, head, block, question);
             return;
         }

@@ -1,7 +1,9 @@
-//! `compare PROGRAM_A PROGRAM_B --seed S --count N [--groups LIST] [--keep DIR]`: makes cases with
-//! the generator, runs both readers on each, and compares standard output, released bytes and exit
-//! status with each other and with what the generator expects. Cases that fail are kept in a folder
-//! each, under DIR or else under `compare-kept-S` in the folder for temporary files.
+//! `compare PROGRAM_A PROGRAM_B --seed S --count N [--groups LIST] [--keep DIR] [--no-status-in-a]`:
+//! makes cases with the generator, runs both readers on each, and compares standard output and
+//! released bytes with each other, and these and the exit status with what the generator expects.
+//! With the last option A is a program that has no exit status of its own: its complaints about a
+//! malformed file are held to the same rules, and it must end with 0. Cases that fail are kept in a
+//! folder each, under DIR or else under `compare-kept-S` in the folder for temporary files.
 
 mod judge;
 mod run;
@@ -14,7 +16,8 @@ use std::process::ExitCode;
 use streams::case::Case;
 use streams::sequence::{self, Group, Sequence};
 
-const USAGE: &str = "usage: compare PROGRAM_A PROGRAM_B --seed S --count N [--groups LIST] [--keep DIR]";
+const USAGE: &str =
+    "usage: compare PROGRAM_A PROGRAM_B --seed S --count N [--groups LIST] [--keep DIR] [--no-status-in-a]";
 
 fn main() -> ExitCode {
     let words: Vec<String> = std::env::args().skip(1).collect();
@@ -34,12 +37,14 @@ struct Settings {
     count: usize,
     groups: Vec<Group>,
     keep: PathBuf,
+    /// Whether each program tells a malformed file by its exit status.
+    have_status: [bool; 2],
 }
 
 impl Settings {
     fn parse(words: &[String]) -> Result<Self, String> {
         let (mut programs, mut seed, mut count) = (Vec::new(), None, None);
-        let (mut groups, mut keep) = (sequence::all_groups(), None);
+        let (mut groups, mut keep, mut have_status) = (sequence::all_groups(), None, [true; 2]);
         let mut words = words.iter();
         while let Some(word) = words.next() {
             let mut value = || words.next().ok_or_else(|| format!("{word} needs a value"));
@@ -48,6 +53,7 @@ impl Settings {
                 "--count" => count = Some(number(word, value()?)? as usize),
                 "--groups" => groups = sequence::parse_groups(value()?)?,
                 "--keep" => keep = Some(PathBuf::from(value()?)),
+                "--no-status-in-a" => have_status[0] = false,
                 other if other.starts_with("--") => return Err(format!("no option {other}\n{USAGE}")),
                 other => programs.push(program(other)?),
             }
@@ -60,6 +66,7 @@ impl Settings {
             count: count.ok_or_else(|| format!("--count is missing\n{USAGE}"))?,
             groups,
             keep: keep.unwrap_or_else(|| std::env::temp_dir().join(format!("compare-kept-{seed}"))),
+            have_status,
         })
     }
 }
@@ -80,7 +87,7 @@ fn compare(settings: &Settings) -> Result<usize, String> {
     let (mut passed, mut failed) = (0, 0);
     for (number, case) in Sequence::new(settings.seed, &settings.groups).take(settings.count).enumerate() {
         let outcomes = workshop.run(&case, &settings.programs)?;
-        let found = complaints(&case, &outcomes);
+        let found = complaints(&case, &outcomes, settings.have_status);
         if found.is_empty() {
             passed += 1;
             continue;

@@ -55,7 +55,12 @@ impl Workshop {
     /// Takes away what the case before has left.
     fn clear(&self) -> io::Result<()> {
         for entry in fs::read_dir(&self.folder)? {
-            fs::remove_file(entry?.path())?;
+            let entry = entry?;
+            if entry.file_type()?.is_dir() {
+                fs::remove_dir(entry.path())?;
+            } else {
+                fs::remove_file(entry.path())?;
+            }
         }
         Ok(())
     }

@@ -6,6 +6,7 @@ use crate::plan::{ring_text, Built, RingRecord};
 use crate::rng::Rng;
 use std::fs;
 use std::io;
+use std::os::unix::fs::symlink;
 use std::path::Path;
 
 /// The names of a case's files.
@@ -23,8 +24,8 @@ pub enum Expected {
     },
     /// Not known, but what is released must be a beginning of this: the answers were verified.
     BeginningOf(Vec<u8>),
-    /// A malformed or missing file: status 2, no line, and one line on standard error that names
-    /// the file and, where it is given here, the line.
+    /// A malformed, missing or unreadable file: no event, and one line on standard error that names
+    /// the file and, where it is given here, the line. The status is 2 in a program that has one.
     Malformed {
         file: &'static str,
         line: Option<usize>,
@@ -43,14 +44,36 @@ impl Expected {
     }
 }
 
+/// Why the bytes of a file cannot be had.
+#[derive(Clone, Copy)]
+pub enum Lack {
+    /// It is named to the reader but not there.
+    Missing,
+    /// It is a folder.
+    Folder,
+    /// It can be opened, and its first read fails.
+    Unreadable,
+}
+
+impl Lack {
+    fn put(self, path: &Path) -> io::Result<()> {
+        match self {
+            Lack::Missing => Ok(()),
+            Lack::Folder => fs::create_dir(path),
+            // Nothing lies at address 0 of the process that reads it.
+            Lack::Unreadable => symlink("/proc/self/mem", path),
+        }
+    }
+}
+
 pub struct Case {
     pub label: String,
     pub stream: Vec<u8>,
     pub ring: Vec<u8>,
     pub answers: Vec<u8>,
     pub cuts: Option<Vec<u8>>,
-    /// A file that is named to the reader but not there.
-    pub missing: Option<&'static str>,
+    /// A file whose bytes cannot be had.
+    pub lack: Option<(&'static str, Lack)>,
     /// Whether the stream goes through a pipe rather than a file.
     pub through_pipe: bool,
     pub expected: Expected,
@@ -106,7 +129,7 @@ impl Case {
             stream,
             ring: ring_text(ring),
             answers: text,
-            missing: None,
+            lack: None,
             expected: Expected::Exactly { lines, body },
         }
     }
@@ -128,7 +151,7 @@ impl Case {
             stream,
             ring: ring_text(&built.ring),
             answers: answers::text(&list, rng),
-            missing: None,
+            lack: None,
             expected,
         }
     }
@@ -136,8 +159,10 @@ impl Case {
     /// Writes the files of the case into a folder, and what is expected beside them.
     pub fn write(&self, folder: &Path) -> io::Result<()> {
         for (name, bytes) in self.files() {
-            if self.missing != Some(name) {
-                fs::write(folder.join(name), bytes)?;
+            let path = folder.join(name);
+            match self.lack {
+                Some((file, lack)) if file == name => lack.put(&path)?,
+                _ => fs::write(path, bytes)?,
             }
         }
         Ok(())
@@ -156,8 +181,8 @@ impl Case {
     pub fn expected_text(&self) -> String {
         match &self.expected {
             Expected::Exactly { lines, .. } => lines.iter().map(|line| format!("{line}\n")).collect(),
-            Expected::Malformed { file, line: Some(line) } => format!("(status 2, {file}, line {line})\n"),
-            Expected::Malformed { file, line: None } => format!("(status 2, {file})\n"),
+            Expected::Malformed { file, line: Some(line) } => format!("(no event; {file}, line {line})\n"),
+            Expected::Malformed { file, line: None } => format!("(no event; {file})\n"),
             Expected::BeginningOf(_) => "(released bytes are a beginning of the signed body)\n".to_string(),
             Expected::Unknown => "(not known)\n".to_string(),
         }

@@ -1,6 +1,6 @@
-//! Malformed and missing files: status 2, no event, one line that names the file and the line.
+//! Malformed, missing and unreadable files: no event, one line that names the file and the line.
 
-use crate::case::{Case, Expected, ANSWERS, CUTS, RING, STREAM};
+use crate::case::{Case, Expected, Lack, ANSWERS, CUTS, RING, STREAM};
 use crate::example;
 use crate::plan::ring_text;
 
@@ -8,9 +8,13 @@ use crate::plan::ring_text;
 pub fn all() -> Vec<Case> {
     let mut cases = Vec::new();
     for file in [STREAM, RING, ANSWERS, CUTS] {
-        let mut case = example_case(format!("{file} missing"), Expected::Malformed { file, line: None });
-        case.missing = Some(file);
-        cases.push(case);
+        for (how, lack) in
+            [("missing", Lack::Missing), ("a folder", Lack::Folder), ("that cannot be read", Lack::Unreadable)]
+        {
+            let mut case = example_case(format!("{file} {how}"), Expected::Malformed { file, line: None });
+            case.lack = Some((file, lack));
+            cases.push(case);
+        }
     }
     cases.extend(rings());
     cases.extend(answers());
@@ -27,7 +31,7 @@ fn example_case(label: String, expected: Expected) -> Case {
         ring: ring_text(&built.ring),
         answers: b"yyyy".to_vec(),
         cuts: Some(b"65536\n".to_vec()),
-        missing: None,
+        lack: None,
         through_pipe: false,
         expected,
     }
@@ -73,13 +77,17 @@ fn rings() -> Vec<Case> {
 }
 
 fn answers() -> Vec<Case> {
-    let texts: [(&str, &[u8], usize); 6] = [
+    let far = [&b"y\n".repeat(1000)[..], b"z"].concat();
+    let wide = [&b" ".repeat(511)[..], b"y\n0"].concat();
+    let texts: [(&str, &[u8], usize); 8] = [
         ("another letter first", b"x", 1),
         ("a capital letter", b"yY", 1),
         ("another letter on line 3", b"y\ny\nyes\n", 3),
         ("a digit behind what is needed", b"y\ny\ny\ny\n1\n", 5),
         ("a zero byte", b"y\0y", 1),
         ("a byte of 255", b"y\n\xff", 2),
+        ("another letter on line 1001", &far, 1001),
+        ("another letter after 513 bytes", &wide, 2),
     ];
     texts
         .into_iter()
@@ -93,7 +101,7 @@ fn answers() -> Vec<Case> {
 }
 
 fn cuts() -> Vec<Case> {
-    let texts: [(&str, Vec<u8>, Option<usize>); 12] = [
+    let texts: [(&str, Vec<u8>, Option<usize>); 14] = [
         ("nothing", b"".to_vec(), None),
         ("zeros only", b"0\n0\n".to_vec(), None),
         ("65,537", b"1\n65537\n".to_vec(), Some(2)),
@@ -106,6 +114,8 @@ fn cuts() -> Vec<Case> {
         ("hex", b"0x10\n".to_vec(), Some(1)),
         ("a CR", b"1\n2\r\n".to_vec(), Some(2)),
         ("4,097 lines", b"1\n".repeat(4097), Some(4097)),
+        ("50,000 lines", b"1\n".repeat(50_000), Some(4097)),
+        ("4,096 zeros", b"0\n".repeat(4096), None),
     ];
     texts
         .into_iter()
@@ -133,6 +143,9 @@ fn good() -> Vec<Case> {
     cases.push(case);
     let mut case = example_case("answers with white space".to_string(), exactly(9));
     case.answers = b" \n\t y\r\n\ny  \n\n\ty\ny\n\n".to_vec();
+    cases.push(case);
+    let mut case = example_case("answers far apart".to_string(), exactly(9));
+    case.answers = [&b" ".repeat(511)[..], b"yy", &b"\n".repeat(1024), b"y", &b"\t".repeat(5000), b"y"].concat();
     cases.push(case);
     let mut case = example_case("more answers than questions".to_string(), exactly(9));
     case.answers = b"y".repeat(5000);

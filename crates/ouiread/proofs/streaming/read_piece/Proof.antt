@@ -1,6 +1,6 @@
 -- `ouiread::streaming::read_piece` is safe. Assumes nothing.
-use borrow.Author.Needs.{needs}
 use native.Mathlib.Omega.{arith}
+use borrow.Author.Needs.{needs}
 use lib.Seq.{length-take-le}
 use mathlib.Core.Path.{sym}
 use Rattle.ouiread.proofs.streaming.read_piece.Statement.{statement}
@@ -9,14 +9,14 @@ use Rattle.ouiread.proofs.streaming.read_piece.Tie as tie
 returns : tie.Need-returns
 returns c = search needs
 
-slice-relend-prefix-read-full : tie.Need-slice-relend-prefix-read-full
-slice-relend-prefix-read-full c = search needs
+slice-relend-prefix-fill : tie.Need-slice-relend-prefix-fill
+slice-relend-prefix-fill c = search needs
 
-slice-aggregate-read-full : tie.Need-slice-aggregate-read-full
-slice-aggregate-read-full c = sym (length-take-le _ _ (omega arith))
+slice-aggregate-fill : tie.Need-slice-aggregate-fill
+slice-aggregate-fill c = sym (length-take-le _ _ (omega arith))
 
-read-full-requires : tie.Need-read-full-requires
-read-full-requires c κs = search needs
+fill-requires : tie.Need-fill-requires
+fill-requires c κs = search needs
 
 same-length : tie.Need-same-length
 same-length c = search needs
@@ -29,8 +29,8 @@ read-piece-spec =
     tie.close
     (tie.spec
     returns
-    slice-relend-prefix-read-full
-    slice-aggregate-read-full
-    read-full-requires
+    slice-relend-prefix-fill
+    slice-aggregate-fill
+    fill-requires
     same-length
     returns-2)
