@@ -33,11 +33,28 @@ run() {
     timeout 20 "$ouiread" "$@" >out 2>err
 }
 
-usage='usage: ouiread STREAM RING ANSWERS [CUTS [BODY]]'
+usage='usage: ouiread STREAM RING ANSWERS [CUTS [BODY]] [--tally]'
 run stream ring
 expect 'two arguments' nothing "$usage"
 run stream ring answers cuts body more
 expect 'six arguments' nothing "$usage"
+
+run stream ring --tally
+expect 'two arguments and the tally' nothing "$usage"
+
+echo 5 >cuts
+{ cat nine; echo 'tally blocks 3 bytes 12 closed 1 refused 0'; } >counted
+run stream ring answers --tally
+expect 'the tally after three arguments' counted ''
+run stream ring answers cuts body --tally
+expect 'the tally after five arguments' counted ''
+printf 'question 219\nrefused 10\ntally blocks 0 bytes 0 closed 0 refused 1\n' >counted
+echo n >no
+run stream ring no --tally
+expect 'a refusal in the tally' counted ''
+printf 'question 219\ntally blocks 0 bytes 0 closed 0 refused 0\n' >counted
+run stream ring nothing --tally
+expect 'no answer in the tally' counted ''
 
 for file in stream ring answers cuts; do
     echo 5 >cuts
@@ -69,6 +86,8 @@ expect 'a body that takes nothing' three '/dev/full: cannot be written'
 timeout 20 "$ouiread" stream ring answers >/dev/full 2>err
 : >out
 expect 'events that cannot be written' nothing 'standard output: cannot be written'
+timeout 20 "$ouiread" stream ring answers --tally >/dev/full 2>err
+expect 'events and a tally that cannot be written' nothing 'standard output: cannot be written'
 
 mkfifo pipe
 timeout 20 cat stream >pipe &

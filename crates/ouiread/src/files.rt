@@ -2,7 +2,7 @@
 use crate::filling::fill;
 use crate::messages::unread;
 
-// The arguments: STREAM RING ANSWERS [CUTS [BODY]].
+// The arguments: STREAM RING ANSWERS [CUTS [BODY]], and --tally as the last one where the tally is asked for.
 pub const STREAM: usize = 1;
 
 pub const RING: usize = 2;
@@ -20,6 +20,29 @@ pub const ABSENT: i32 = -2;
 pub enum Loaded {
     Text(usize),
     Nothing,
+}
+
+// Whether the last argument asks for the tally.
+pub fn tally_asked() -> bool {
+    let mut word = io::buffer();
+    let n = os::arg(before(os::arg_count()), &mut word);
+    text::same(&word[..n], b"--tally")
+}
+
+// How many arguments there are without that one, the program's name among them.
+pub fn arg_count() -> usize {
+    let count = os::arg_count();
+    if tally_asked() {
+        return before(count);
+    }
+    count
+}
+
+fn before(n: usize) -> usize {
+    if n == 0 {
+        return 0;
+    }
+    n - 1
 }
 
 // Opens a file to be read and sees that it can be: a folder opens, and no byte can be read from it.
@@ -55,7 +78,7 @@ pub fn load(i: usize, text: &mut [u8]) -> Loaded {
 
 // Opens a file to be written, where the argument is there.
 pub fn create(i: usize) -> i32 {
-    if os::arg_count() <= i {
+    if arg_count() <= i {
         return ABSENT;
     }
     let mut path = io::buffer();

@@ -1,14 +1,17 @@
-// `ouiread STREAM RING ANSWERS [CUTS [BODY]]` reads a signature stream in pieces and writes a line for each event. A file that is
-// missing or malformed gives one line on standard error and no event. A program of this language has no exit status: the lines tell.
+// `ouiread STREAM RING ANSWERS [CUTS [BODY]] [--tally]` reads a signature stream in pieces and writes a line for each event and, where
+// it is asked for, a last one with the tally. A file that is missing or malformed gives one line on standard error and no event. A
+// program of this language has no exit status: the lines tell.
 mod answers; // the letters y and n, read as they are needed
 mod cuts; // the lengths of the pieces
 mod files; // the files by the number of their argument
 mod filling; // the next bytes of an open file
+mod lending; // the ring as a lent table
 mod lines; // lines and their words in a text
 mod messages; // what is written
 mod records; // the key ring's records
 mod sitting; // events, and what they lead to
 mod streaming; // the stream, piece by piece
+mod tallying; // the tally, counted in place
 
 use answers::Answers;
 use files::BODY;
@@ -57,7 +60,7 @@ fn with_cuts(
     ring: KeyRing,
     answers: Answers,
 ) {
-    if os::arg_count() <= CUTS {
+    if files::arg_count() <= CUTS {
         with_stream(head, block, question, piece, b"65536", ring, answers);
         return;
     }
@@ -106,12 +109,26 @@ fn with_stream(
         answers,
         body,
         stopped: false,
+        lost: false,
+        tally: tally::zero(),
     };
-    streaming::read_all(s, head, block, question, piece, cuts, ring, stream);
+    let done = streaming::read_all(s, head, block, question, piece, cuts, ring, stream);
+    tell_tally(done);
+}
+
+// The last line, where it is asked for and no line before it was lost.
+fn tell_tally(s: Sitting) {
+    if s.lost | !files::tally_asked() {
+        return;
+    }
+    let day = s.tally;
+    if !messages::tally(day) {
+        messages::lost();
+    }
 }
 
 fn main() {
-    let count = os::arg_count();
+    let count = files::arg_count();
     if count < 4 {
         messages::usage();
         return;

@@ -1,13 +1,14 @@
 // What is written: events to standard output, and what is wrong with a file to standard error.
 use libc::STDERR_FILENO;
 use libc::STDOUT_FILENO;
+use tally::Tally;
 
 fn err(text: &[u8]) {
     io::write_all(STDERR_FILENO, text);
 }
 
 pub fn usage() {
-    err(b"usage: ouiread STREAM RING ANSWERS [CUTS [BODY]]\n");
+    err(b"usage: ouiread STREAM RING ANSWERS [CUTS [BODY]] [--tally]\n");
 }
 
 // What is wrong on a line of the file that argument i names.
@@ -41,6 +42,17 @@ pub fn refused(number: u8) -> bool {
 
 pub fn block(offset: u64, length: usize) -> bool {
     say(b"block ") && io::print_decimal(STDOUT_FILENO, offset) && event(b" ", length as u64)
+}
+
+// The four counts, as one line.
+pub fn tally(t: Tally) -> bool {
+    say(b"tally blocks ")
+        && io::print_decimal(STDOUT_FILENO, t.blocks)
+        && say(b" bytes ")
+        && io::print_decimal(STDOUT_FILENO, t.bytes)
+        && say(b" closed ")
+        && io::print_decimal(STDOUT_FILENO, t.closed)
+        && event(b" refused ", t.refused)
 }
 
 // The file that argument i names, and what cannot be done with it.

@@ -5,25 +5,33 @@ use crate::answers::Letter;
 use crate::files::ABSENT;
 use crate::files::BODY;
 use crate::messages;
+use crate::tallying::counted;
 use steps::Reader;
 use steps::Word;
+use tally::Tally;
 
-// The reader, the answers that are left, the file for the body, and whether the program goes no further.
+// The reader, the answers that are left, the file for the body, whether the program goes no further, whether an
+// event's line was lost, and what was counted.
 pub struct Sitting {
     pub reader: Reader,
     pub answers: Answers,
     pub body: i32,
     pub stopped: bool,
+    pub lost: bool,
+    pub tally: Tally,
 }
 
 // The sitting after a call that leaves the reader so.
 pub fn with_reader(s: Sitting, r: Reader) -> Sitting {
     let answers = s.answers;
+    let tally = s.tally;
     Sitting {
         reader: r,
         answers,
         body: s.body,
         stopped: s.stopped,
+        lost: s.lost,
+        tally,
     }
 }
 
@@ -35,12 +43,23 @@ fn stopped(s: Sitting) -> Sitting {
 
 fn with_answers(s: Sitting, answers: Answers) -> Sitting {
     let reader = s.reader;
+    let tally = s.tally;
     Sitting {
         reader,
         answers,
         body: s.body,
         stopped: s.stopped,
+        lost: s.lost,
+        tally,
     }
+}
+
+// The sitting with a call's word counted.
+fn tallied(s: Sitting, word: Word) -> Sitting {
+    let day = s.tally;
+    let mut t = s;
+    t.tally = counted(day, word);
+    t
 }
 
 // Where an event's line could not be written the program goes no further.
@@ -49,7 +68,9 @@ fn written(s: Sitting, good: bool) -> Sitting {
         return s;
     }
     messages::lost();
-    stopped(s)
+    let mut t = stopped(s);
+    t.lost = true;
+    t
 }
 
 // A released block goes to the body's file, where one is asked for, and then its line is written.
@@ -89,7 +110,7 @@ fn answer(
     let o = reader::answer(r, head, block, question, good);
     let word = o.word;
     let after = o.reader;
-    tell_plain(with_reader(s, after), block, word)
+    tell_plain(tallied(with_reader(s, after), word), block, word)
 }
 
 // Answers the open question. Without an answer the program goes no further.
@@ -143,7 +164,7 @@ pub fn tell(
     question: &mut [u8; 8192],
     word: Word,
 ) -> Sitting {
-    let t = tell_plain(s, block, word);
+    let t = tell_plain(tallied(s, word), block, word);
     if is_question(word) & !t.stopped {
         return ask(t, head, block, question);
     }

@@ -4,6 +4,7 @@ use crate::files::STREAM;
 use crate::filling::Filled;
 use crate::filling::fill;
 use crate::filling::later;
+use crate::lending;
 use crate::messages;
 use crate::sitting::Sitting;
 use crate::sitting::tell;
@@ -49,7 +50,9 @@ fn feed_rest(
     rest: &[u8],
 ) -> Fed {
     let r = s.reader;
-    let o = reader::feed(r, head, block, question, ring, rest);
+    let records = ring.records;
+    let count = ring.count;
+    let o = lending::feed(r, head, block, question, records, count, rest);
     told(s, head, block, question, o)
 }
 
@@ -90,12 +93,17 @@ fn read_piece(stream: i32, room: &mut [u8], size: usize) -> Filled {
 }
 
 // Tells the reader that no bytes will follow.
-fn finish(s: Sitting, head: &mut [u8; 8192], block: &mut [u8; 65536], question: &mut [u8; 8192]) {
+fn finish(
+    s: Sitting,
+    head: &mut [u8; 8192],
+    block: &mut [u8; 65536],
+    question: &mut [u8; 8192],
+) -> Sitting {
     let r = s.reader;
     let o = reader::end(r, head, block, question);
     let word = o.word;
     let after = o.reader;
-    tell(with_reader(s, after), head, block, question, word);
+    tell(with_reader(s, after), head, block, question, word)
 }
 
 // Reads the stream to its end, or until the program goes no further. The end is told only where it was seen: what came before a
@@ -109,7 +117,7 @@ pub fn read_all(
     cuts: &[u8],
     ring: KeyRing,
     stream: i32,
-) {
+) -> Sitting {
     let mut sitting = s;
     let mut place = 0;
     let mut turns = u64::MAX;
@@ -127,15 +135,15 @@ pub fn read_all(
             fields::part(piece, 0, filled.count),
         );
         if sitting.stopped {
-            return;
+            return sitting;
         }
         if filled.failed {
             messages::unread(STREAM);
-            return;
+            return sitting;
         }
         if filled.count < cut.size {
-            finish(sitting, head, block, question);
-            return;
+            return finish(sitting, head, block, question);
         }
     }
+    sitting
 }
