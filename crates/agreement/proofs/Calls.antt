@@ -10,7 +10,7 @@ use lib.ListN.{length, length-take}
 use Rattle.octets.specs.Choice.{pick}
 use Rattle.chunk.specs.Place.{largest}
 use Rattle.sections.specs.Reading.{Event, question, message, last}
-use Rattle.sections.specs.Calls.{feed, answer, end, more, event}
+use Rattle.sections.specs.Calls.{Request, feed, answer, end, more, event}
 use Rattle.sections.specs.Machine.{running, asked, finished, Turn, respond}
 use Rattle.stream.specs.Events.{Question, Release, headAccepted, block, LastWord}
 use Rattle.stream.specs.Events as E
@@ -32,7 +32,7 @@ use Rattle.reader.specs.Feed.{fed, takenFrom}
 use Rattle.reader.specs.Answer.{accepting, headAnswer, following, releasing, blockAnswer, answerAt}
 use Rattle.reader.specs.Parts.{blockPart}
 use Rattle.agreement.specs.Shown as Shown
-use Rattle.agreement.specs.Plain.{Handed, handedAfter}
+use Rattle.agreement.specs.Plain.{blockLeft, Handed, handedAfter}
 use Rattle.agreement.specs.Run.{wordSeen}
 use Rattle.agreement.proofs.Stands.{Counts, Lent, Standing, At, HeadAsked, BlockAsked, Reads, isRelease}
 use Rattle.agreement.proofs.Stands as F
@@ -51,23 +51,24 @@ quiet-holds r = record { stands = r .stands; lent = r .lent; block = rw (r .take
 module _ (ring : Ring) (h : Handed) where
   -- ---- a feed
 
-  event-holds : {d : Desk} {s : Standing} (e : Event Question Release LastWord) → isRelease e ≡ false → Reads ring (h .signed) d s
-      → Holds ring d (handedAfter h (event e)) s
-  event-holds (question q) z r = quiet-holds r
-  event-holds (message e) z r = absurd (true≢false z)
-  event-holds (last l) z r = quiet-holds r
+  event-holds : {d : Desk} {s : Standing} (piece : List ℕ) (e : Event Question Release LastWord) → isRelease e ≡ false → Reads ring (h .signed) d s
+      → Holds ring d (handedAfter h (feed piece) (event e)) s
+  event-holds piece (question q) z r = quiet-holds r
+  event-holds piece (message e) z r = absurd (true≢false z)
+  event-holds piece (last l) z r = quiet-holds r
 
-  fed-follows : {f : Fed} {t : Turn Context Question Release LastWord} → FedAs ring (h .signed) 0 f t → CallFollows ring h (fed f) t
+  fed-follows : {f : Fed} {t : Turn Context Question Release LastWord} (piece : List ℕ) → FedAs ring (h .signed) 0 f t
+      → CallFollows ring h (feed piece) (fed f) t
   unfolding wordSeen
-  fed-follows (B.all {n} e r) = follows _ more n _ (quiet-holds r) refl (e ∙ zero-add n)
-  fed-follows (B.upTo {e = x} {n} e w z r) = follows _ (event x) n _ (event-holds x z r) w (e ∙ zero-add n)
+  fed-follows piece (B.all {n} e r) = follows _ more n _ (quiet-holds r) refl (e ∙ zero-add n)
+  fed-follows piece (B.upTo {e = x} {n} e w z r) = follows _ (event x) n _ (event-holds piece x z r) w (e ∙ zero-add n)
 
   pub feed-follows : (d : Desk) (s : Standing) (piece : List ℕ) → Holds ring d h s
-      → CallFollows ring h (pick (isReading (d .reader .phase)) (takenFrom ring (recalled d) piece) (unchanged 1 d)) (respond (rules ring) s (feed piece))
+      → CallFollows ring h (feed piece) (pick (isReading (d .reader .phase)) (takenFrom ring (recalled d) piece) (unchanged 1 d)) (respond (rules ring) s (feed piece))
   unfolding takenFrom respond
   feed-follows d (running c g) piece k =
       rw (reading-phase (k .stands))
-      (fed-follows
+      (fed-follows piece
       (piece-follows ring (h .signed) piece 0 (recalled d)
       (record { stands = stands-back (k .stands); lent = still (k .lent) _ refl refl refl refl refl; taken = refl })))
   feed-follows d (asked y) piece k = rw (asked-phase (k .stands)) (unchanged-follows 1 d (asked y) refl k)
@@ -76,30 +77,34 @@ module _ (ring : Ring) (h : Handed) where
   -- ---- the end
 
   -- a refusal with no block handed out
-  refused-follows : (n count : ℕ) (d : Desk) → 3 ≤ n → Lent d (h .signed) → d .reader .released ≡ 0
-      → CallFollows ring h (given 0 (refuse n count d)) ((event (last (E.refused n)), 0), finished)
+  refused-follows : (r : Request) (n count : ℕ) (d : Desk) → 3 ≤ n → Lent d (h .signed) → d .reader .released ≡ 0 → blockLeft r (h .released) ≡ []
+      → CallFollows ring h r (given 0 (refuse n count d)) ((event (last (E.refused n)), 0), finished)
   unfolding refuse
-  refused-follows n count d m l z =
+  refused-follows r n count d m l z e =
       follows _ (event (last (E.refused n))) 0 finished
-      (record { stands = F.refused; lent = still l _ refl refl (length-cleared count (d .block)) refl refl; block = rw z refl })
+      (record { stands = F.refused; lent = still l _ refl refl (length-cleared count (d .block)) refl refl; block = rw (z, e) refl })
       (seen-final n _ _ m) refl
 
   pub end-follows : (d : Desk) (s : Standing) → Holds ring d h s
-      → CallFollows ring h (pick (isReading (d .reader .phase)) (given 0 (refuse 11 (pending (d .reader .phase)) (recalled d))) (unchanged 1 d)) (respond (rules ring) s end)
+      → CallFollows ring h end (pick (isReading (d .reader .phase)) (given 0 (refuse 11 (pending (d .reader .phase)) (recalled d))) (unchanged 1 d)) (respond (rules ring) s end)
   unfolding respond rules
   end-follows d (running c g) k =
       rw (reading-phase (k .stands))
-      (refused-follows 11 (pending (d .reader .phase)) (recalled d) (omega arith) (still (k .lent) _ refl refl refl refl refl) refl)
+      (refused-follows end 11 (pending (d .reader .phase)) (recalled d) (omega arith) (still (k .lent) _ refl refl refl refl refl) refl refl)
   end-follows d (asked y) k = rw (asked-phase (k .stands)) (unchanged-follows 1 d (asked y) refl k)
   end-follows d finished k = rw (finished-phase (k .stands)) (unchanged-follows 1 d finished refl k)
 
+  -- with no block handed out, nothing is
+  none-out : {d : Desk} {s : Standing} → Holds ring d h s → d .reader .released ≡ 0 → h .released ≡ []
+  none-out k z = sym (rw z at (k .block))
+
   -- ---- an answer to the head's question
 
-  module _ (d : Desk) (n : ℕ) (l : List ℕ) (lent : Lent d (h .signed)) (a : HeadAsked ring d n l) where
+  module _ (d : Desk) (n : ℕ) (l : List ℕ) (lent : Lent d (h .signed)) (a : HeadAsked ring d n l) (none : h .released ≡ []) where
     within : n ≤ length (d .head)
     within = rw (← a .bytes .count, ← a .bytes .bytes, length-take) (omega arith)
 
-    accepted-holds : Holds ring (desk (accepting (d .reader) n) (d .head) (d .block) (d .question)) (record { released = []; signed = signedOf (headOf l) }) (running (C.firstLine (showOf ring (headOf l))) [])
+    accepted-holds : Holds ring (desk (accepting (d .reader) n) (d .head) (d .block) (d .question)) (record { released = h .released; signed = signedOf (headOf l) }) (running (C.firstLine (showOf ring (headOf l))) [])
     accepted-holds =
         record {
           stands =
@@ -113,20 +118,20 @@ module _ (ring : Ring) (h : Handed) where
                 line = lent .line;
                 value = λ name. rw (a .bytes .bytes) at (handed-signed ring (d .head) n name (lent .head) within (rw (a .bytes .bytes) (a .good)));
               };
-          block = rw (a .taken) refl;
+          block = rw (a .taken, none) refl;
         }
 
-    head-answer-follows : (good : Bool) → CallFollows ring h (headAnswer n d good) (respond (rules ring) (asked (F.headGrant ring d l)) (answer good))
+    head-answer-follows : (good : Bool) → CallFollows ring h (answer good) (headAnswer n d good) (respond (rules ring) (asked (F.headGrant ring d l)) (answer good))
     unfolding headAnswer respond rules wordSeen
     head-answer-follows true =
         let v = accepted-holds .lent .value in
         follows _ (event (message (headAccepted (decimalValue (statusDigits (headOf l))) (signedOf (headOf l))))) 0 _ accepted-holds
         (λ i. event (message (Shown.headAccepted (a .status i) (λ name. v name i)))) refl
-    head-answer-follows false = refused-follows 10 0 d (omega arith) lent (a .taken)
+    head-answer-follows false = refused-follows (answer false) 10 0 d (omega arith) lent (a .taken) none
 
   -- ---- an answer to a block's question
 
-  module _ (d : Desk) (s : Show) (p : Past) (size next : ℕ) (b : List ℕ) (lent : Lent d (h .signed)) (a : BlockAsked ring d s p size next b) where
+  module _ (d : Desk) (s : Show) (p : Past) (size next : ℕ) (b : List ℕ) (lent : Lent d (h .signed)) (a : BlockAsked ring d s p size next b) (none : h .released ≡ []) where
     counts : Counts (releasing (d .reader) size next) (after p b)
     unfolding releasing following
     counts =
@@ -148,22 +153,22 @@ module _ (ring : Ring) (h : Handed) where
           block = a .bytes .bytes;
         }
 
-    block-answer-follows : (good : Bool) → CallFollows ring h (blockAnswer size next d good) (respond (rules ring) (asked (F.blockGrant ring d s p next b)) (answer good))
+    block-answer-follows : (good : Bool) → CallFollows ring h (answer good) (blockAnswer size next d good) (respond (rules ring) (asked (F.blockGrant ring d s p next b)) (answer good))
     unfolding blockAnswer respond rules wordSeen releasing
     block-answer-follows true =
         let o : Push.offsetNow (d .reader) .0 ≡ blockOffset s p = offset-now (d .reader) s p (length b) (a .keeps) (a .blocks) (a .sound) in
         let n : size ≡ length b = sym (a .bytes .count) in
         let t : blockPart (d .block) size ≡ b = part-is (d .block) size (lent .block) ∙ a .bytes .bytes in
         follows _ (event (message (block (blockOffset s p) b))) 0 _ released-holds (λ i. event (message (Shown.block (o i) (n i) (t i)))) refl
-    block-answer-follows false = refused-follows 10 size d (omega arith) lent (a .taken)
+    block-answer-follows false = refused-follows (answer false) 10 size d (omega arith) lent (a .taken) none
 
   -- ---- any answer
 
   pub answer-follows : (d : Desk) (p : Phase) (s : Standing) (good : Bool) → Holds ring d h s → At ring d p s
-      → CallFollows ring h (answerAt p d good) (respond (rules ring) s (answer good))
+      → CallFollows ring h (answer good) (answerAt p d good) (respond (rules ring) s (answer good))
   unfolding answerAt respond
-  answer-follows d p (asked y) good k (F.headAsked {n} {l} a) = head-answer-follows d n l (k .lent) a good
-  answer-follows d p (asked y) good k (F.blockAsked {size} {next} {b} {s} {p = q} a) = block-answer-follows d s q size next b (k .lent) a good
+  answer-follows d p (asked y) good k (F.headAsked {n} {l} a) = head-answer-follows d n l (k .lent) a (none-out k (a .taken)) good
+  answer-follows d p (asked y) good k (F.blockAsked {size} {next} {b} {s} {p = q} a) = block-answer-follows d s q size next b (k .lent) a (none-out k (a .taken)) good
   answer-follows d p (running c g) good k (F.head early a e) = unchanged-follows 1 d _ refl k
   answer-follows d p (running c g) good k (F.firstLine keeps sound none a e) = unchanged-follows 1 d _ refl k
   answer-follows d p (running c g) good k (F.blockData keeps counts sound a e) = unchanged-follows 1 d _ refl k

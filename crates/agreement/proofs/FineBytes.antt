@@ -25,22 +25,11 @@ use Rattle.steps.specs.Push as Push
 use Rattle.steps.specs.Run.{follow, runOf}
 use Rattle.steps.specs.declared.state.Phase.{Phase}
 use Rattle.steps.specs.declared.state.Phase.the-variants as P
-use Rattle.steps.specs.declared.state.Word as Steps
-use Rattle.steps.specs.declared.state.Word.the-variants as W
 use Rattle.reader.specs.Call.{isReading}
 use Rattle.reader.specs.HeadByte.{headAnswered, judgedAt, headGathered, pushHead}
 use Rattle.reader.specs.Feed.{pushAt, pushByte, fed}
-use Rattle.agreement.specs.Run.{isOfCall}
 use Rattle.agreement.proofs.Refusals.{line-number, head-number, of-stream}
-
--- the word is refusal 1 or 2
-abbrev pub isMisuse : Steps.Word → Bool
-isMisuse W.More = false
-isMisuse (W.Question n key) = false
-isMisuse (W.Head status) = false
-isMisuse (W.Block offset n) = false
-isMisuse (W.Closed total) = false
-isMisuse (W.Refused n) = isOfCall n
+use Rattle.agreement.specs.Due.{isMisuse}
 
 -- where a byte leads: the reader stands where bytes are due, or says a word that is neither
 abbrev pub Fine : Next → Type 0

@@ -61,10 +61,10 @@ module _ (ring : Ring) (fields : List Field) (d : Desk) (x : ℕ) (lent : Lent d
   abbrev message : List ℕ
   message = signingString (headOf l)
 
-  seen-is : (e : Desk) → e .question ≡ message ++ drop (length message) (d .question)
+  seen-is : (e : Desk) → length message ≤ length (d .question) → e .question ≡ message ++ drop (length message) (d .question)
       → wordSeen (W.Question (length message) (numberOf (trustedBy ring (headOf l)))) (headSignature (headOf l)) e ≡ event (question (headQuestion ring (headOf l)))
   unfolding wordSeen headQuestion showOf
-  seen-is e q = rw (q, take-append-seam message (drop (length message) (d .question)))
+  seen-is e f q = rw (q, front-length message (d .question) f, le-leb (length message) (length (d .question)) f, take-append-seam message (drop (length message) (d .question)))
 
   abbrev asks : Reader
   asks =
@@ -79,7 +79,7 @@ module _ (ring : Ring) (fields : List Field) (d : Desk) (x : ℕ) (lent : Lent d
       → Follows ring fields (judgedAt d′ (have + 1) (J.asked (numberOf (trustedBy ring (headOf l))) (headOf l) (d .question))) (rule (acceptHead ring (headOf l)))
   unfolding headAnswered J.asked acceptHead
   question-follows e m h a =
-      F.says (seen-is _ refl) refl
+      F.says (seen-is _ (omega (arith, signing-fits ring l e)) refl) refl
       (record {
         stands =
             F.headAsked {l = l}

@@ -6,7 +6,7 @@ use Prim.Native.Nat.{ℕ, _≤_}
 use borrow.Author.Tests.{le-leb}
 use lib.ListN.{length, take}
 use Rattle.sections.specs.Reading.{question, Grant}
-use Rattle.sections.specs.Calls.{Word, misused, Out}
+use Rattle.sections.specs.Calls.{Request, Word, misused, Out}
 use Rattle.sections.specs.Machine.{running, asked, finished, Turn, refused}
 use Rattle.stream.specs.Events.{Question, Release, LastWord}
 use Rattle.stream.specs.Fields.{valueOf}
@@ -33,9 +33,9 @@ pub record Holds (ring : Ring) (d : Desk) (h : Handed) (s : Standing) : Type 0 w
   pub block : take (d .reader .released) (d .block) ≡ h .released
 
 -- a call shows what the machine's turn says, and both go on side by side
-pub record CallFollows (ring : Ring) (h : Handed) (c : R.Call) (t : Turn Context Question Release LastWord) : Type 0 where
-  pub same : seen c ≡ shows (handedAfter h (t .0 .0)) (t .0)
-  pub holds : Holds ring (c .after) (handedAfter h (t .0 .0)) (t .1)
+pub record CallFollows (ring : Ring) (h : Handed) (r : Request) (c : R.Call) (t : Turn Context Question Release LastWord) : Type 0 where
+  pub same : seen c ≡ shows (handedAfter h r (t .0 .0)) (t .0)
+  pub holds : Holds ring (c .after) (handedAfter h r (t .0 .0)) (t .1)
 
 -- ---- what is shown
 
@@ -51,15 +51,15 @@ shown c h o s k w n =
     let v : (name : List ℕ) → handedValue (c .after .head) (c .after .reader .accepted) name ≡ valueOf name (h .signed) = k .lent .value in
     λ i. record { out = (w i, n i); block = b i; value = λ name. v name i }
 
-pub follows : {ring : Ring} {h : Handed} (c : R.Call) (w : Word Question Release LastWord) (n : ℕ) (s : Standing)
-    → Holds ring (c .after) (handedAfter h w) s → wordSeen (c .word) (c .signature) (c .after) ≡ toldWord w → c .taken ≡ n
-    → CallFollows ring h c ((w, n), s)
-follows {h} c w n s k e m = record { same = shown c (handedAfter h w) (w, n) s k e m; holds = k }
+pub follows : {ring : Ring} {h : Handed} {r : Request} (c : R.Call) (w : Word Question Release LastWord) (n : ℕ) (s : Standing)
+    → Holds ring (c .after) (handedAfter h r w) s → wordSeen (c .word) (c .signature) (c .after) ≡ toldWord w → c .taken ≡ n
+    → CallFollows ring h r c ((w, n), s)
+follows {h} {r} c w n s k e m = record { same = shown c (handedAfter h r w) (w, n) s k e m; holds = k }
 
 -- ---- refusals that change nothing
 
-pub unchanged-follows : {ring : Ring} {h : Handed} (n : ℕ) (d : Desk) (s : Standing) → isOfCall n ≡ true → Holds ring d h s
-    → CallFollows ring h (unchanged n d) (refused n s)
+pub unchanged-follows : {ring : Ring} {h : Handed} {r : Request} (n : ℕ) (d : Desk) (s : Standing) → isOfCall n ≡ true → Holds ring d h s
+    → CallFollows ring h r (unchanged n d) (refused n s)
 unfolding wordSeen
 unchanged-follows n d s m k = follows (unchanged n d) (misused n) 0 s k (rw m) refl
 

@@ -1,5 +1,6 @@
 pub mod Stands
 pub mod Gathering
+pub mod Rooms
 pub mod Refusals
 pub mod DataSteps
 pub mod LineSteps
@@ -13,3 +14,4 @@ pub mod Streams
 pub mod Taking
 pub mod FineBytes
 pub mod Misuse
+pub mod RingUse

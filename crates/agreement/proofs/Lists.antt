@@ -13,6 +13,7 @@ use Rattle.sections.specs.Calls.{Request, feed, answer, end, misused}
 use Rattle.sections.specs.Calls as S
 use Rattle.sections.specs.Machine.{running, Turn, turn, runCalls}
 use Rattle.sections.specs.Machine as M
+use Rattle.sections.specs.Resuming.{request}
 use Rattle.sections.proofs.Cutting.{calls-agree}
 use Rattle.stream.specs.Events.{Question, Release, LastWord}
 use Rattle.stream.specs.Fields.{valueOf}
@@ -26,17 +27,19 @@ use Rattle.head.proofs.ValueLaws.{handed-none}
 use Rattle.steps.specs.Desk.{Desk, desk}
 use Rattle.steps.specs.declared.state.Reader.{Reader}
 use Rattle.reader.specs.Call as R
-use Rattle.reader.specs.Call.{areRoomy, fits, isReading, unchanged, recalled}
+use Rattle.reader.specs.Call.{areRoomy, isReading, unchanged, recalled}
 use Rattle.reader.specs.Feed.{takenFrom, feedOf}
 use Rattle.reader.specs.Answer.{answerOf, endOf}
 use Rattle.reader.specs.Parts.{freshReader, blockPart}
 use Rattle.agreement.specs.Plain.{Handed, nothing, handedAfter, shows, showing, plainlyShown}
-use Rattle.agreement.specs.Run.{ringFits, loanFits, Call, same, other, called, aside, runCall, wordSeen, seen, runFrom, run, plainCall, plainCalls}
+use Rattle.agreement.specs.Run.{Call, same, other, called, aside, runCall, wordSeen, seen, runFrom, run, plainCall, plainCalls}
 use Rattle.agreement.proofs.Stands.{Standing}
 use Rattle.agreement.proofs.Stands as F
 use Rattle.agreement.proofs.Gathering.{none-gathered}
+use Rattle.agreement.proofs.Rooms.{loan-same}
 use Rattle.agreement.proofs.Holds.{Holds, CallFollows, unchanged-follows, roomy}
 use Rattle.agreement.proofs.Calls.{feed-follows, answer-follows, end-follows}
+use Rattle.agreement.specs.Loans.{haveRoom, ringFits, loanFits}
 
 -- ---- one call
 
@@ -48,17 +51,17 @@ neither false e = refl
 pub misfit-unchanged : (r : Reader) (h b q : List ℕ) (keys : KeyRing) (k : Request) → loanFits h b q keys k ≡ false
     → called keys (desk r h b q) k ≡ unchanged 2 (desk r h b q)
 unfolding loanFits feedOf answerOf endOf
-misfit-unchanged r h b q keys (feed piece) e = rw e
-misfit-unchanged r h b q keys (answer good) e = rw (neither (areRoomy h b q) e)
-misfit-unchanged r h b q keys end e = rw (neither (areRoomy h b q) e)
+misfit-unchanged r h b q keys (feed piece) e = rw (loan-same h b q keys (feed piece) ∙ e)
+misfit-unchanged r h b q keys (answer good) e = rw (neither (areRoomy h b q) (loan-same h b q keys (answer good) ∙ e))
+misfit-unchanged r h b q keys end e = rw (neither (areRoomy h b q) (loan-same h b q keys end ∙ e))
 
 called-follows : (keys : KeyRing) (d : Desk) (h : Handed) (s : Standing) (k : Request) → Holds (ringOf keys) d h s
-    → CallFollows (ringOf keys) h (called keys d k) (turn (rules (ringOf keys)) s (S.call (ringFits keys k) k))
+    → CallFollows (ringOf keys) h k (called keys d k) (turn (rules (ringOf keys)) s (S.call (ringFits keys k) k))
 unfolding turn feedOf answerOf endOf
 called-follows keys d h s (feed piece) k = rw (roomy (k .lent)) (by (leb (keys .count) ringLimit))
   where
     by : (t : Bool)
-        → CallFollows (ringOf keys) h (pick t (pick (isReading (d .reader .phase)) (takenFrom (ringOf keys) (recalled d) piece) (unchanged 1 d)) (unchanged 2 d)) (turn (rules (ringOf keys)) s (S.call t (feed piece)))
+        → CallFollows (ringOf keys) h (feed piece) (pick t (pick (isReading (d .reader .phase)) (takenFrom (ringOf keys) (recalled d) piece) (unchanged 1 d)) (unchanged 2 d)) (turn (rules (ringOf keys)) s (S.call t (feed piece)))
     by true = feed-follows (ringOf keys) h d s piece k
     by false = unchanged-follows 2 d s refl k
 called-follows keys d h s (answer good) k = rw (roomy (k .lent)) (answer-follows (ringOf keys) h d (d .reader .phase) s good k (k .stands))
@@ -71,7 +74,7 @@ aside-unchanged d h b q keys k e = rw (misfit-unchanged (d .reader) h b q keys k
 
 -- where the buffers are too short, every call is refused with 2 and nothing is handed out
 record Idle (d : Desk) (h : Handed) : Type 0 where
-  short : fits d ≡ false
+  short : haveRoom (d .head) (d .block) (d .question) ≡ false
   block : blockPart (d .block) (d .reader .released) ≡ h .released
   value : (name : List ℕ) → handedValue (d .head) (d .reader .accepted) name ≡ valueOf name (h .signed)
 
@@ -84,17 +87,18 @@ idle-shown d h k = let v = k .value in λ i. record { out = (misused 2, 0); bloc
 module _ (keys : KeyRing) (h₀ b₀ q₀ : List ℕ) where
   -- the reader beside the machine
   data Beside : Desk → Handed → Standing → Type 0 where
-    fit : {d : Desk} {h : Handed} {s : Standing} → areRoomy h₀ b₀ q₀ ≡ true → Holds (ringOf keys) d h s → Beside d h s
-    idle : {d : Desk} {h : Handed} {s : Standing} → areRoomy h₀ b₀ q₀ ≡ false → Idle d h → Beside d h s
+    fit : {d : Desk} {h : Handed} {s : Standing} → haveRoom h₀ b₀ q₀ ≡ true → Holds (ringOf keys) d h s → Beside d h s
+    idle : {d : Desk} {h : Handed} {s : Standing} → haveRoom h₀ b₀ q₀ ≡ false → Idle d h → Beside d h s
 
-  record Goes (h : Handed) (c : R.Call) (t : Turn Context Question Release LastWord) : Type 0 where
-    shown : seen c ≡ shows (handedAfter h (t .0 .0)) (t .0)
-    beside : Beside (c .after) (handedAfter h (t .0 .0)) (t .1)
+  record Goes (h : Handed) (r : Request) (c : R.Call) (t : Turn Context Question Release LastWord) : Type 0 where
+    shown : seen c ≡ shows (handedAfter h r (t .0 .0)) (t .0)
+    beside : Beside (c .after) (handedAfter h r (t .0 .0)) (t .1)
 
   abbrev turned : Standing → Call → Turn Context Question Release LastWord
   turned s k = turn (rules (ringOf keys)) s (plainCall keys h₀ b₀ q₀ k)
 
-  call-goes : (d : Desk) (h : Handed) (s : Standing) (k : Call) → Beside d h s → Goes h (runCall keys d k) (turned s k)
+  call-goes : (d : Desk) (h : Handed) (s : Standing) (k : Call) → Beside d h s
+      → Goes h (request (plainCall keys h₀ b₀ q₀ k)) (runCall keys d k) (turned s k)
   unfolding turn runCall loanFits
   call-goes d h s (same k) (fit e v) =
       let c = called-follows keys d h s k v in
@@ -103,21 +107,21 @@ module _ (keys : KeyRing) (h₀ b₀ q₀ : List ℕ) where
       rw (e, misfit-unchanged (d .reader) (d .head) (d .block) (d .question) keys k (rw (v .short) refl))
       (record { shown = idle-shown d h v; beside = idle e v })
   call-goes d h s (other h′ b′ q′ keys′ k m) (fit e v) =
-      let c = unchanged-follows 2 d s refl v in
+      let c = unchanged-follows {r = k} 2 d s refl v in
       rw (aside-unchanged d h′ b′ q′ keys′ k m) (record { shown = c .same; beside = fit e (c .holds) })
   call-goes d h s (other h′ b′ q′ keys′ k m) (idle e v) =
       rw (aside-unchanged d h′ b′ q′ keys′ k m) (record { shown = idle-shown d h v; beside = idle e v })
 
   calls-go : (ks : List Call) (d : Desk) (h : Handed) (s : Standing) → Beside d h s
-      → runFrom keys d ks ≡ showing h (M.runFrom (rules (ringOf keys)) s (plainCalls keys h₀ b₀ q₀ ks))
+      → runFrom keys d ks ≡ showing h (plainCalls keys h₀ b₀ q₀ ks) (M.runFrom (rules (ringOf keys)) s (plainCalls keys h₀ b₀ q₀ ks))
   unfolding runFrom M.runFrom showing plainCalls
   calls-go [] d h s v = refl
   calls-go (k ∷ ks) d h s v =
       let g = call-goes d h s k v in
-      λ i. g .shown i ∷ calls-go ks (runCall keys d k .after) (handedAfter h (turned s k .0 .0)) (turned s k .1) (g .beside) i
+      λ i. g .shown i ∷ calls-go ks (runCall keys d k .after) (handedAfter h (request (plainCall keys h₀ b₀ q₀ k)) (turned s k .0 .0)) (turned s k .1) (g .beside) i
 
-  fresh-beside : (t : Bool) → areRoomy h₀ b₀ q₀ ≡ t → Beside (desk freshReader h₀ b₀ q₀) nothing (running C.head [])
-  unfolding freshReader areRoomy blockPart valueOf
+  fresh-beside : (t : Bool) → haveRoom h₀ b₀ q₀ ≡ t → Beside (desk freshReader h₀ b₀ q₀) nothing (running C.head [])
+  unfolding freshReader haveRoom blockPart valueOf
   fresh-beside true e =
       fit e
       (record {
@@ -142,5 +146,5 @@ module _ (keys : KeyRing) (h₀ b₀ q₀ : List ℕ) where
   pub run-shown : (ks : List Call) → run keys h₀ b₀ q₀ ks ≡ plainlyShown (ringOf keys) (plainCalls keys h₀ b₀ q₀ ks)
   unfolding run runCalls plainlyShown
   run-shown ks =
-      calls-go ks (desk freshReader h₀ b₀ q₀) nothing (running C.head []) (fresh-beside (areRoomy h₀ b₀ q₀) refl)
-      ∙ ap (showing nothing) (calls-agree (rules (ringOf keys)) C.head (plainCalls keys h₀ b₀ q₀ ks))
+      calls-go ks (desk freshReader h₀ b₀ q₀) nothing (running C.head []) (fresh-beside (haveRoom h₀ b₀ q₀) refl)
+      ∙ ap (showing nothing (plainCalls keys h₀ b₀ q₀ ks)) (calls-agree (rules (ringOf keys)) C.head (plainCalls keys h₀ b₀ q₀ ks))

@@ -1,6 +1,6 @@
 -- Refusals 1 and 2, for every state value, forged ones too: when they come, that they change nothing, and that no other call has
 -- these numbers. Assumes nothing.
-use mathlib.Core.Path.{_≡_, refl, sym}
+use mathlib.Core.Path.{_≡_, refl, sym, _∙_}
 use mathlib.Core.Bool.{Bool, true, false, true≢false}
 use native.Mathlib.Omega.{arith}
 use Rattle.octets.specs.Choice.{pick}
@@ -12,30 +12,14 @@ use Rattle.steps.specs.Desk.{Desk, Next, on, stop, refuse, pending}
 use Rattle.steps.specs.declared.state.Phase.{Phase}
 use Rattle.steps.specs.declared.state.Phase.the-variants as P
 use Rattle.reader.specs.Call as R
-use Rattle.reader.specs.Call.{fits, isReading, unchanged, given, recalled}
+use Rattle.reader.specs.Call.{fits, unchanged, given, recalled}
 use Rattle.reader.specs.Feed.{takenFrom, feedOf}
 use Rattle.reader.specs.Answer.{headAnswer, blockAnswer, answerAt, answerOf, endOf}
-use Rattle.agreement.specs.Run.{loanFits, called}
-use Rattle.agreement.proofs.FineBytes.{isMisuse, Fine, fine-refuse, fine-run}
-
--- a question is open
-abbrev pub isAsking : Phase → Bool
-isAsking (P.Head n) = false
-isAsking (P.HeadAsked n) = true
-isAsking (P.FirstLine n) = false
-isAsking (P.Data have size) = false
-isAsking (P.DataEnd have size) = false
-isAsking (P.NextLine have size) = false
-isAsking (P.BlockAsked size next) = true
-isAsking (P.Trailer have total) = false
-isAsking (P.Closed total) = false
-isAsking (P.Refused n) = false
-
--- the call is due: "feed or end with a question open, answer with none open, any call after a final event" is not
-abbrev pub isDue : Phase → Request → Bool
-isDue p (feed piece) = isReading p
-isDue p (answer good) = isAsking p
-isDue p end = isReading p
+use Rattle.agreement.specs.Run.{called}
+use Rattle.agreement.proofs.FineBytes.{Fine, fine-refuse, fine-run}
+use Rattle.agreement.specs.Due.{isAsking, isDue, isMisuse}
+use Rattle.agreement.specs.Loans.{loanFits}
+use Rattle.agreement.proofs.Rooms.{loan-same}
 
 -- ---- the calls
 
@@ -75,21 +59,20 @@ answer-early d (P.Refused n) good e = refl
 
 module _ (keys : KeyRing) (d : Desk) where
   roomy-of : (r : Request) → loanFits (d .head) (d .block) (d .question) keys r ≡ true → fits d ≡ true
-  unfolding loanFits
-  roomy-of r e = left-holds (fits d) _ e
+  roomy-of r e = left-holds (fits d) _ (loan-same (d .head) (d .block) (d .question) keys r ∙ e)
 
   -- REFUSAL 1
   pub undue-unchanged : (r : Request) → loanFits (d .head) (d .block) (d .question) keys r ≡ true → isDue (d .reader .phase) r ≡ false
       → called keys d r ≡ unchanged 1 d
-  unfolding feedOf answerOf endOf loanFits
-  undue-unchanged (feed piece) f e = rw (f, e)
+  unfolding feedOf answerOf endOf
+  undue-unchanged (feed piece) f e = rw (loan-same (d .head) (d .block) (d .question) keys (feed piece) ∙ f, e)
   undue-unchanged (answer good) f e = rw (roomy-of (answer good) f) (answer-early d (d .reader .phase) good e)
   undue-unchanged end f e = rw (roomy-of end f, e)
 
   -- no other call has these numbers
   pub due-fine : (r : Request) → loanFits (d .head) (d .block) (d .question) keys r ≡ true → isDue (d .reader .phase) r ≡ true
       → isMisuse (called keys d r .word) ≡ false
-  unfolding feedOf answerOf endOf loanFits takenFrom
-  due-fine (feed piece) f e = rw (f, e) (fine-run (ringOf keys) (recalled d) 0 piece e)
+  unfolding feedOf answerOf endOf takenFrom
+  due-fine (feed piece) f e = rw (loan-same (d .head) (d .block) (d .question) keys (feed piece) ∙ f, e) (fine-run (ringOf keys) (recalled d) 0 piece e)
   due-fine (answer good) f e = rw (roomy-of (answer good) f) (fine-answer d (d .reader .phase) good e)
   due-fine end f e = rw (roomy-of end f, e) (given-fine (refuse 11 (pending (d .reader .phase)) (recalled d)) (fine-refuse 11 (pending (d .reader .phase)) (recalled d) (omega arith)))

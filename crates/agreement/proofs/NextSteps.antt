@@ -5,7 +5,7 @@ use mathlib.Core.List.{List, [], _∷_, _++_}
 use Prim.Native.Nat.{ℕ, zero, suc, _+_, _≤_, _<_}
 use native.Mathlib.Omega.{arith}
 use borrow.Author.Tests.{le-leb, lt-leb}
-use lib.Dec.{eqb}
+use lib.Dec.{eqb, leb}
 use lib.ListN.{length, take, drop, set, length-append, length-drop, length-set}
 use lib.Seq.{take-append-seam}
 use Rattle.octets.specs.Choice.{pick}
@@ -100,9 +100,11 @@ module _ (ring : Ring) (fields : List Field) (d : Desk) (x : ℕ) (lent : Lent d
   seen-is c e q =
       let m : take (messageNow d′ size .count) (e .question) ≡ message =
       rw (q, message-is) (take-append-seam message (drop (length message) (d .question))) in
+      let z : leb (messageNow d′ size .count) (length (e .question)) ≡ true =
+      rw (q, message-is, front-length message (d .question) fits) (le-leb (length message) (length (d .question)) fits) in
       let t : signatureOf l ≡ lineSignature l = rw c refl in
       let n : d′ .reader .key ≡ s .keyNumber = u .keeps .key in
-      λ i. event (question (record { message = m i; signature = t i; keyNumber = n i }))
+      rw z (λ i. event (question (record { message = m i; signature = t i; keyNumber = n i })))
 
   question-follows : lineFault (s .size) true (eqb (length b) (s .size)) (bodyWith s p b) l ≡ 0 → SoundSays (acceptBlock s p b l)
       → Follows ring fields (Push.asked d′ size (chunkSize l) (signatureOf l)) (rule (acceptBlock s p b l))

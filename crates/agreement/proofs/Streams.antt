@@ -6,13 +6,13 @@ use Prim.Native.Nat.{ℕ, _+_}
 use lib.ListN.{drop}
 use Rattle.sections.specs.Reading.{Event, question, message, last, Log}
 use Rattle.sections.specs.Calls.{Call, Word, more, event, misused, Out, standing, standingAt, readCalls}
-use Rattle.sections.specs.Machine.{runCalls}
-use Rattle.sections.specs.Resuming.{heard, Resumes, entry, placed, events, answersHeard, Tracks, bytesTaken, endHeard}
+use Rattle.sections.specs.Machine.{State, running, turn, runFrom, runCalls}
+use Rattle.sections.specs.Resuming.{heard, request, Resumes, entry, placed, events, answersHeard, Tracks, bytesTaken, endHeard}
 use Rattle.sections.proofs.Cutting.{calls-agree, stream-agrees}
 use Rattle.sections.proofs.Histories.{run-took}
 use Rattle.stream.specs.Events.{Question, Release, LastWord}
 use Rattle.stream.specs.Ring.{Ring}
-use Rattle.stream.specs.Stream.{head, rules, plainReading}
+use Rattle.stream.specs.Stream.{Context, head, rules, plainReading}
 use Rattle.agreement.specs.Shown.{Told, outs}
 use Rattle.agreement.specs.Plain.{toldEvent, toldWord, toldLog, Handed, nothing, handedAfter, showing, plainlyShown}
 
@@ -24,10 +24,13 @@ abbrev toldOuts : Outs → List (Out Question Told LastWord)
 toldOuts [] = []
 toldOuts (o ∷ os) = (toldWord (o .0), o .1) ∷ toldOuts os
 
-outs-told : (h : Handed) (os : Outs) → outs (showing h os) ≡ toldOuts os
-unfolding outs showing
-outs-told h [] = refl
-outs-told h (o ∷ os) = λ i. (toldWord (o .0), o .1) ∷ outs-told (handedAfter h (o .0)) os i
+outs-told : (ring : Ring) (ks : List Call) (h : Handed) (s : State Context Release LastWord)
+    → outs (showing h ks (runFrom (rules ring) s ks)) ≡ toldOuts (runFrom (rules ring) s ks)
+unfolding outs showing runFrom
+outs-told ring [] h s = refl
+outs-told ring (k ∷ ks) h s =
+    let t = turn (rules ring) s k in
+    λ i. (toldWord (t .0 .0), t .0 .1) ∷ outs-told ring ks (handedAfter h (request k) (t .0 .0)) (t .1) i
 
 heard-told : (w : Word Question Release LastWord) → heard (toldWord w) ≡ heard w
 heard-told more = refl
@@ -58,7 +61,7 @@ end-told [] os = refl
 end-told (k ∷ ks) [] = refl
 end-told (k ∷ ks) (o ∷ os) = rw (heard-told (o .0), end-told ks os)
 
-log-append : (l m : Log Question Release LastWord) → toldLog (l ++ m) ≡ toldLog l ++ toldLog m
+pub log-append : (l m : Log Question Release LastWord) → toldLog (l ++ m) ≡ toldLog l ++ toldLog m
 unfolding toldLog
 log-append [] m = refl
 log-append (x ∷ l) m = ap (λ (t : Log Question Told LastWord). (x .0, toldEvent (x .1)) ∷ t) (log-append l m)
@@ -92,8 +95,9 @@ tracks-told {log} {whole} t =
       complete = λ e. ap toldLog (t .complete (sym (standing-told log) ∙ e));
     }
 
-outs-run : (ring : Ring) (ks : List Call) → outs (showing nothing (readCalls (rules ring) head ks)) ≡ toldOuts (runCalls (rules ring) head ks)
-outs-run ring ks = outs-told nothing _ ∙ ap toldOuts (sym (calls-agree (rules ring) head ks))
+outs-run : (ring : Ring) (ks : List Call) → outs (showing nothing ks (readCalls (rules ring) head ks)) ≡ toldOuts (runCalls (rules ring) head ks)
+unfolding runCalls
+outs-run ring ks = rw (← calls-agree (rules ring) head ks) (outs-told ring ks nothing (running head []))
 
 -- THE STREAM: where the pieces go on through the stream S from the first byte not taken, and the end is told only once all is taken,
 -- what is shown of the events, with their places, is a beginning of the plain reading of S, and all of it once a last word has come
@@ -115,3 +119,8 @@ shown-took ring ks =
     let os = runCalls (rules ring) head ks in
     let e = outs-run ring ks in
     rw (e, answers-told ks os, bytes-told ks os, end-told ks os, placed-told 0 os) (ap toldLog (run-took (rules ring) head ks))
+
+-- THE EVENTS SHOWN are those of the machine's run, told.
+pub shown-events : (ring : Ring) (ks : List Call) → events (outs (plainlyShown ring ks)) ≡ toldLog (events (runCalls (rules ring) head ks))
+unfolding plainlyShown
+shown-events ring ks = rw (outs-run ring ks) (placed-told 0 (runCalls (rules ring) head ks))

@@ -1,9 +1,9 @@
 -- How many bytes a feed takes, whatever the state: one or more of a piece that is not empty, and no more than there are.
 -- Assumes nothing.
-use mathlib.Core.Path.{_≡_}
+use mathlib.Core.Path.{_≡_, _∙_}
 use mathlib.Core.Bool.{true}
 use mathlib.Core.List.{List, [], _∷_}
-use Prim.Native.Nat.{ℕ, _+_, _≤_}
+use Prim.Native.Nat.{ℕ, _+_}
 use native.Mathlib.Omega.{arith}
 use lib.ListN.{length}
 use Rattle.ring.specs.Keys.{ringOf}
@@ -13,12 +13,9 @@ use Rattle.steps.specs.Desk.{Desk, Next, on, stop}
 use Rattle.steps.specs.Run.{follow, runOf}
 use Rattle.reader.specs.Call.{isReading, recalled}
 use Rattle.reader.specs.Feed.{pushByte, fed, takenFrom, feedOf}
-use Rattle.agreement.specs.Run.{loanFits}
-
--- between the two, both included
-pub record Between (low high n : ℕ) : Type 0 where
-  pub least : low ≤ n
-  pub most : n ≤ high
+use Rattle.agreement.specs.Due.{Between}
+use Rattle.agreement.specs.Loans.{loanFits}
+use Rattle.agreement.proofs.Rooms.{loan-same}
 
 -- of a run over xs, under any rule of bytes, with t bytes taken before
 run-takes : (push : Desk → ℕ → Next) (d : Desk) (t : ℕ) (xs : List ℕ) → Between t (t + length xs) (fed (runOf push d t xs) .taken)
@@ -42,5 +39,5 @@ some-taken push d x xs = by (push d x)
 -- A FEED of a piece that is not empty, and that is due, takes a byte or more, in any state.
 pub feed-takes : (keys : KeyRing) (d : Desk) (x : ℕ) (xs : List ℕ) → loanFits (d .head) (d .block) (d .question) keys (feed (x ∷ xs)) ≡ true
     → isReading (d .reader .phase) ≡ true → Between 1 (length (x ∷ xs)) (feedOf keys d (x ∷ xs) .taken)
-unfolding feedOf takenFrom loanFits
-feed-takes keys d x xs e r = rw (e, r) (some-taken (pushByte (ringOf keys)) (recalled d) x xs)
+unfolding feedOf takenFrom
+feed-takes keys d x xs e r = rw (loan-same (d .head) (d .block) (d .question) keys (feed (x ∷ xs)) ∙ e, r) (some-taken (pushByte (ringOf keys)) (recalled d) x xs)

@@ -1,3 +1,5 @@
 pub mod Shown
 pub mod Plain
+pub mod Loans
 pub mod Run
+pub mod Due

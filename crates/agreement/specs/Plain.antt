@@ -4,7 +4,8 @@ use mathlib.Core.List.{List, [], _∷_}
 use Prim.Native.Nat.{ℕ}
 use lib.ListN.{length}
 use Rattle.sections.specs.Reading.{Event, question, message, last, Log}
-use Rattle.sections.specs.Calls.{Call, Word, more, event, misused, Out, readCalls}
+use Rattle.sections.specs.Calls.{Request, feed, answer, end, Call, Word, more, event, misused, Out, readCalls}
+use Rattle.sections.specs.Resuming.{request}
 use Rattle.stream.specs.Events.{Question, Release, headAccepted, block, LastWord}
 use Rattle.stream.specs.Fields.{valueOf}
 use Rattle.stream.specs.Lines.{Field}
@@ -46,15 +47,20 @@ pub record Handed : Type 0 where
 abbrev pub nothing : Handed
 nothing = record { released = []; signed = [] }
 
--- "until the next feed or end that isn't refused by 1 or 2": no answer is due before one of these, so any call that is not refused
--- takes the block back; the signed values stay for good
-abbrev pub handedAfter : Handed → Word Question Release LastWord → Handed
-handedAfter h more = record { released = []; signed = h .signed }
-handedAfter h (event (question q)) = record { released = []; signed = h .signed }
-handedAfter h (event (message (headAccepted status fields))) = record { released = []; signed = fields }
-handedAfter h (event (message (block offset b))) = record { released = b; signed = h .signed }
-handedAfter h (event (last l)) = record { released = []; signed = h .signed }
-handedAfter h (misused n) = h
+-- "until the next feed or end that isn't refused by 1 or 2": such a call takes the block back, an answer does not
+abbrev pub blockLeft : Request → List ℕ → List ℕ
+blockLeft (feed piece) b = []
+blockLeft (answer good) b = b
+blockLeft end b = []
+
+-- *block* hands its bytes out, and *head accepted* the signed fields, for good; a call refused by 1 or 2 changes nothing
+abbrev pub handedAfter : Handed → Request → Word Question Release LastWord → Handed
+handedAfter h r more = record { released = blockLeft r (h .released); signed = h .signed }
+handedAfter h r (event (question q)) = record { released = blockLeft r (h .released); signed = h .signed }
+handedAfter h r (event (message (headAccepted status fields))) = record { released = blockLeft r (h .released); signed = fields }
+handedAfter h r (event (message (block offset b))) = record { released = b; signed = h .signed }
+handedAfter h r (event (last l)) = record { released = blockLeft r (h .released); signed = h .signed }
+handedAfter h r (misused n) = h
 
 -- ---- calls
 
@@ -62,10 +68,11 @@ abbrev pub shows : Handed → Out Question Release LastWord → Shown
 shows h o = record { out = (toldWord (o .0), o .1); block = h .released; value = λ name. valueOf name (h .signed) }
 
 -- what is shown of one call after the other, where h is handed out before them
-unfoldable pub showing : Handed → List (Out Question Release LastWord) → List Shown
-showing h [] = []
-showing h (o ∷ os) = shows (handedAfter h (o .0)) o ∷ showing (handedAfter h (o .0)) os
+unfoldable pub showing : Handed → List Call → List (Out Question Release LastWord) → List Shown
+showing h [] os = []
+showing h (k ∷ ks) [] = []
+showing h (k ∷ ks) (o ∷ os) = shows (handedAfter h (request k) (o .0)) o ∷ showing (handedAfter h (request k) (o .0)) ks os
 
 -- what the plain reading shows of a list of calls
 unfoldable pub plainlyShown : Ring → List Call → List Shown
-plainlyShown ring ks = showing nothing (readCalls (rules ring) head ks)
+plainlyShown ring ks = showing nothing ks (readCalls (rules ring) head ks)

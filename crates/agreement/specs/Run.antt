@@ -1,42 +1,31 @@
 -- A list of calls of the reader, from a fresh one, and what a caller sees of each: the functions that the contracts of `feed`,
 -- `answer`, `end`, `block_part` and `field_part` name, and nothing else. Assumes nothing.
 use mathlib.Core.Path.{_≡_}
-use mathlib.Core.Bool.{Bool, true, false, _&&_, _||_}
+use mathlib.Core.Bool.{Bool, false, _||_}
 use mathlib.Core.List.{List, [], _∷_}
 use Prim.Native.Nat.{ℕ}
 use lib.Dec.{eqb, leb}
-use lib.ListN.{take}
+use lib.ListN.{length, take}
 use Rattle.octets.specs.Choice.{pick}
 use Rattle.ring.specs.declared.KeyRing.{KeyRing}
 use Rattle.sections.specs.Reading.{question, message, last}
 use Rattle.sections.specs.Calls.{Request, feed, answer, end, Word, more, event, misused}
 use Rattle.sections.specs.Calls as S
 use Rattle.stream.specs.Events.{Question, LastWord, closed, refused}
-use Rattle.stream.specs.Limits.{ringLimit}
 use Rattle.head.specs.Handing.{handedValue}
 use Rattle.steps.specs.Desk.{Desk, desk}
 use Rattle.steps.specs.declared.state.Word.the-variants as W
 use Rattle.steps.specs.declared.state.Word as Steps
 use Rattle.reader.specs.Call as R
-use Rattle.reader.specs.Call.{areRoomy}
 use Rattle.reader.specs.Feed.{feedOf}
 use Rattle.reader.specs.Answer.{answerOf, endOf}
 use Rattle.reader.specs.Parts.{freshReader, blockPart}
+use Rattle.agreement.specs.Loans.{loanFits}
 use Rattle.agreement.specs.Shown.{Told, headAccepted, block, Shown}
 
--- ---- calls and what they are lent
+-- ---- calls
 
--- whether a ring will do: only a feed is lent one
-abbrev pub ringFits : KeyRing → Request → Bool
-ringFits ring (feed piece) = leb (ring .count) ringLimit
-ringFits ring (answer good) = true
-ringFits ring end = true
-
--- whether what a call is lent will do; where not, it is refused with 2
-unfoldable pub loanFits : List ℕ → List ℕ → List ℕ → KeyRing → Request → Bool
-loanFits h b q ring r = areRoomy h b q && ringFits ring r
-
--- "Calls refused with 2 may be lent anything"; any other is lent the same buffers as last left, and a feed the same ring
+-- A call that is refused with 2 may be lent anything; any other is lent the same buffers as last left, and a feed the same ring.
 pub data Call : Type 0 where
   same : Request → Call
   other : (h b q : List ℕ) (ring : KeyRing) (r : Request) → loanFits h b q ring r ≡ false → Call
@@ -76,10 +65,15 @@ blockSeen d = blockPart (d .block) (d .reader .released)
 abbrev pub valueSeen : Desk → List ℕ → List ℕ
 valueSeen d name = handedValue (d .head) (d .reader .accepted) name
 
--- the word, with the signature, and the reader and the buffers after the call: a question's message lies at the front of its buffer
+-- the message at the front of the question buffer, of so many bytes; a length past the buffer would be no question
+abbrev pub questionSeen : ℕ → ℕ → List ℕ → List ℕ → Word Question Told LastWord
+questionSeen n key signature q =
+    pick (leb n (length q)) (event (question (record { message = take n q; signature = signature; keyNumber = key }))) more
+
+-- the word, with the signature, and the reader and the buffers after the call
 unfoldable pub wordSeen : Steps.Word → List ℕ → Desk → Word Question Told LastWord
 wordSeen W.More signature d = more
-wordSeen (W.Question n key) signature d = event (question (record { message = take n (d .question); signature = signature; keyNumber = key }))
+wordSeen (W.Question n key) signature d = questionSeen n key signature (d .question)
 wordSeen (W.Head status) signature d = event (message (headAccepted status (valueSeen d)))
 wordSeen (W.Block offset n) signature d = event (message (block (offset .0) n (blockSeen d)))
 wordSeen (W.Closed total) signature d = event (last (closed total))

@@ -1,18 +1,17 @@
 -- THE DAY TALLY. Over any list of calls the tally's counts are those of the plain reading's events, each cut to its largest value.
 -- Assumes nothing.
-use mathlib.Core.Path.{_≡_, refl, sym, ap, _∙_}
+use mathlib.Core.Path.{_≡_, refl, sym, ap, ap₂, _∙_}
 use mathlib.Core.Bool.{Bool, true, false}
 use mathlib.Core.List.{List, [], _∷_, _++_}
 use Prim.Native.Nat.{ℕ, _+_}
-use native.Mathlib.Nat.{zero-add}
+use lib.Dec.{leb}
+use lib.ListN.{length}
 use Rattle.octets.specs.Choice.{pick}
-use Rattle.ring.specs.Keys.{ringOf}
 use Rattle.ring.specs.declared.KeyRing.{KeyRing}
 use Rattle.sections.specs.Reading.{Event, question, message, last, Log}
 use Rattle.sections.specs.Calls.{Word, more, event, misused}
-use Rattle.sections.specs.Resuming.{entry, placed, endHeard}
+use Rattle.sections.specs.Resuming.{entry, placed}
 use Rattle.stream.specs.Events.{Question, Release, headAccepted, block, LastWord, closed, refused}
-use Rattle.stream.specs.Stream.{plainReading}
 use Rattle.steps.specs.Desk.{Desk, desk}
 use Rattle.steps.specs.declared.state.Word as Steps
 use Rattle.steps.specs.declared.state.Word.the-variants as W
@@ -20,13 +19,12 @@ use Rattle.reader.specs.Parts.{freshReader}
 use Rattle.agreement.specs.Shown.{Told, outs}
 use Rattle.agreement.specs.Shown as S
 use Rattle.agreement.specs.Plain.{toldEvent, toldLog}
-use Rattle.agreement.specs.Run.{Call, isOfCall, wordSeen, seen, runCall, runFrom, run, plainCalls}
+use Rattle.agreement.specs.Run.{Call, isOfCall, wordSeen, seen, runCall, runFrom, run}
 use Rattle.tally.specs.Counting.{noCounts, tallied}
 use Rattle.tally.specs.Counts.{Counts, counts, nothing, together, shown, refusalCounts, eventCounts, countsOf, wordCounts, wordsCount}
-use Rattle.tally.proofs.Totals.{tally-of-words}
-use Rattle.claims.specs.Words.{wordsFrom, wordsOfRun}
-use Rattle.claims.proofs.Demand2.{taken, run-reads}
-use Rattle.claims.proofs.Demand3.{words, answers}
+use Rattle.tally.proofs.Totals.{together-assoc, nothing-together, tally-of-words, counts-append}
+use Rattle.claims.specs.Words.{wordsFrom, wordsOfRun, Sitting, dayWords, eventsRead, dayEvents}
+use Rattle.claims.proofs.Demand3.{demand-3}
 
 -- what a told event adds, and a word as it is seen
 abbrev eventTold : Event Question Told LastWord → Counts
@@ -45,10 +43,14 @@ refusal-counts : (n : ℕ) (t : Bool) → isOfCall n ≡ t → refusalCounts n �
 refusal-counts n true e = rw e
 refusal-counts n false e = refl
 
+question-counts : (t : Bool) (x : Question) → nothing ≡ wordTold (pick t (event (question x)) more)
+question-counts true x = refl
+question-counts false x = refl
+
 word-seen : (w : Steps.Word) (signature : List ℕ) (d : Desk) → wordCounts w ≡ wordTold (wordSeen w signature d)
 unfolding wordCounts wordSeen
 word-seen W.More signature d = refl
-word-seen (W.Question n key) signature d = refl
+word-seen (W.Question n key) signature d = question-counts (leb n (length (d .question))) _
 word-seen (W.Head status) signature d = refl
 word-seen (W.Block o n) signature d = refl
 word-seen (W.Closed total) signature d = refl
@@ -60,14 +62,11 @@ abbrev logTold : Log Question Told LastWord → Counts
 logTold [] = nothing
 logTold (x ∷ log) = together (eventTold (x .1)) (logTold log)
 
-none-first : (c : Counts) → together nothing c ≡ c
-none-first c = λ i. counts (zero-add (c .blocks) i) (zero-add (c .bytes) i) (zero-add (c .closed) i) (zero-add (c .refused) i)
-
 -- a word adds to the log what it counts
 entry-counts : (at : ℕ) (w : Word Question Told LastWord) (log : Log Question Told LastWord) → logTold (entry at w ++ log) ≡ together (wordTold w) (logTold log)
-entry-counts at more log = sym (none-first (logTold log))
+entry-counts at more log = sym (nothing-together (logTold log))
 entry-counts at (event e) log = refl
-entry-counts at (misused n) log = sym (none-first (logTold log))
+entry-counts at (misused n) log = sym (nothing-together (logTold log))
 
 words-counted : (keys : KeyRing) (d : Desk) (ks : List Call) (at : ℕ) → wordsCount (wordsFrom keys d ks) ≡ logTold (placed at (outs (runFrom keys d ks)))
 unfolding wordsCount wordsFrom placed outs runFrom seen
@@ -89,14 +88,27 @@ told-counts (x ∷ log) = rw (one (x .1), told-counts log)
     one (last (closed total)) = refl
     one (last (refused n)) = refl
 
-module _ (keys : KeyRing) (h b q : List ℕ) (ks : List Call) where
-  -- the events of the plain reading of what the run took
-  abbrev pub eventsRead : Log Question Release LastWord
-  eventsRead = plainReading (ringOf keys) (taken keys h b q ks) (answers keys h b q ks) (endHeard (plainCalls keys h b q ks) (words keys h b q ks))
+run-counted : (keys : KeyRing) (h b q : List ℕ) (ks : List Call) → wordsCount (wordsOfRun keys h b q ks) ≡ countsOf (eventsRead keys h b q ks)
+unfolding wordsOfRun run
+run-counted keys h b q ks =
+    words-counted keys (desk freshReader h b q) ks 0 ∙ ap logTold (demand-3 keys h b q ks .all-taken) ∙ told-counts (eventsRead keys h b q ks)
 
-  -- A tally that is zero at first, and is given the word of each call of any list, shows what these events come to.
-  pub day-tally : tallied noCounts (wordsOfRun keys h b q ks) ≡ shown (countsOf eventsRead)
-  unfolding wordsOfRun run
-  day-tally =
-      tally-of-words (wordsOfRun keys h b q ks)
-      ∙ ap shown (words-counted keys (desk freshReader h b q) ks 0 ∙ ap logTold (run-reads keys h b q ks) ∙ told-counts eventsRead)
+-- ---- of a day
+
+words-append : (ws vs : List Steps.Word) → wordsCount (ws ++ vs) ≡ together (wordsCount ws) (wordsCount vs)
+unfolding wordsCount
+words-append [] vs = sym (nothing-together (wordsCount vs))
+words-append (w ∷ ws) vs = ap (together (wordCounts w)) (words-append ws vs) ∙ sym (together-assoc (wordCounts w) (wordsCount ws) (wordsCount vs))
+
+day-counted : (ss : List Sitting) → wordsCount (dayWords ss) ≡ countsOf (dayEvents ss)
+unfolding dayWords dayEvents wordsCount countsOf
+day-counted [] = refl
+day-counted (s ∷ ss) =
+    words-append (wordsOfRun (s .keys) (s .head) (s .block) (s .question) (s .calls)) (dayWords ss)
+    ∙ ap₂ together (run-counted (s .keys) (s .head) (s .block) (s .question) (s .calls)) (day-counted ss)
+    ∙ sym (counts-append (eventsRead (s .keys) (s .head) (s .block) (s .question) (s .calls)) (dayEvents ss))
+
+-- A tally that is zero at first, and is given the word of each call of any lists of calls, one stream after the other, shows what the
+-- events of their plain readings come to.
+pub day-tally : (ss : List Sitting) → tallied noCounts (dayWords ss) ≡ shown (countsOf (dayEvents ss))
+day-tally ss = tally-of-words (dayWords ss) ∙ ap shown (day-counted ss)

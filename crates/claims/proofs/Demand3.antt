@@ -12,46 +12,46 @@ use mathlib.Core.List.{List}
 use Prim.Native.Nat.{ℕ}
 use Rattle.ring.specs.Keys.{ringOf}
 use Rattle.ring.specs.declared.KeyRing.{KeyRing}
-use Rattle.sections.specs.Calls.{Out, over, standing}
-use Rattle.sections.specs.Resuming.{Resumes, events, answersHeard, Tracks}
-use Rattle.stream.specs.Events.{Question, LastWord}
+use Rattle.sections.specs.Calls.{over, standing}
+use Rattle.sections.specs.Resuming.{Resumes, events, Tracks}
 use Rattle.stream.specs.Stream.{plainReading}
-use Rattle.agreement.specs.Shown.{Told, outs}
 use Rattle.agreement.specs.Plain.{toldLog, plainlyShown}
 use Rattle.agreement.specs.Run.{Call, run, plainCalls}
 use Rattle.agreement.proofs.Lists.{run-shown}
-use Rattle.agreement.proofs.Streams.{shown-tracks}
+use Rattle.agreement.proofs.Streams.{shown-tracks, shown-took}
+use Rattle.claims.specs.Runs.{words, taken, answers, ended}
 
-module _ (keys : KeyRing) (h b q : List ℕ) where
-  -- the words and the counts of a run
-  abbrev pub words : List Call → List (Out Question Told LastWord)
-  words ks = outs (run keys h b q ks)
+pub record CuttingChangesNothing (keys : KeyRing) (h b q : List ℕ) (ks : List Call) : Type 0 where
+  -- EVERY LIST OF CALLS, wrongly timed and ill lent ones and empty pieces among them: all that is seen of each call is what the plain
+  -- reading gives.
+  pub each-call : run keys h b q ks ≡ plainlyShown (ringOf keys) (plainCalls keys h b q ks)
+  -- WHAT WAS TAKEN. The events, each with its place and with what it hands out, are the plain reading of the bytes that were taken, in
+  -- one piece, with the answers that were heard.
+  pub all-taken : events (words keys h b q ks)
+      ≡ toldLog (plainReading (ringOf keys) (taken keys h b q ks) (answers keys h b q ks) (ended keys h b q ks))
+  -- A WHOLE STREAM. Let the pieces go on through a stream S from the first byte not taken, and the end be told only once all is
+  -- taken; refused calls may be anything. Then the events are a beginning of the plain reading of all of S with the answers given, and
+  -- all of it once a last word has come.
+  pub whole-stream : (S : List ℕ) → Resumes S (plainCalls keys h b q ks) (words keys h b q ks)
+      → Tracks (events (words keys h b q ks)) (toldLog (plainReading (ringOf keys) S (answers keys h b q ks) true))
 
-  -- the answers that the run heard
-  abbrev pub answers : List Call → List Bool
-  answers ks = answersHeard (plainCalls keys h b q ks) (words ks)
+pub demand-3 : (keys : KeyRing) (h b q : List ℕ) (ks : List Call) → CuttingChangesNothing keys h b q ks
+demand-3 keys h b q ks =
+    let e = run-shown keys h b q ks in
+    record {
+      each-call = e;
+      all-taken = rw e (shown-took (ringOf keys) (plainCalls keys h b q ks));
+      whole-stream = λ S r. rw e (shown-tracks (ringOf keys) S (plainCalls keys h b q ks) (rw e at r));
+    }
 
-  pub record CuttingChangesNothing (ks : List Call) : Type 0 where
-    -- EVERY LIST OF CALLS, wrongly timed and ill lent ones and empty pieces among them: all that is seen of each call is what
-    -- the plain reading gives.
-    pub each-call : run keys h b q ks ≡ plainlyShown (ringOf keys) (plainCalls keys h b q ks)
-    -- A WHOLE STREAM. Let the pieces go on through a stream S from the first byte not taken, and the end be told only once all is
-    -- taken; refused calls may be anything. Then the events, each with its place and with what it hands out, are a beginning of the
-    -- plain reading of all of S with the answers given, and all of it once a last word has come.
-    pub whole-stream : (S : List ℕ) → Resumes S (plainCalls keys h b q ks) (words ks)
-        → Tracks (events (words ks)) (toldLog (plainReading (ringOf keys) S (answers ks) true))
-
-  pub demand-3 : (ks : List Call) → CuttingChangesNothing ks
-  demand-3 ks =
-      let e = run-shown keys h b q ks in
-      record { each-call = e; whole-stream = λ S r. rw e (shown-tracks (ringOf keys) S (plainCalls keys h b q ks) (rw e at r)) }
-
-  -- HOWEVER IT IS CUT: two runs over one stream with the same answers, that both came to a last word, have the same events at the
-  -- same places, and hand out the same blocks and values.
-  pub two-cuttings : (S : List ℕ) (ks ls : List Call) → Resumes S (plainCalls keys h b q ks) (words ks) → Resumes S (plainCalls keys h b q ls) (words ls)
-      → answers ks ≡ answers ls → standing (events (words ks)) ≡ over → standing (events (words ls)) ≡ over
-      → events (words ks) ≡ events (words ls)
-  two-cuttings S ks ls c d same x y =
-      demand-3 ks .whole-stream S c .complete x
-      ∙ ap (λ (a : List Bool). toldLog (plainReading (ringOf keys) S a true)) same
-      ∙ sym (demand-3 ls .whole-stream S d .complete y)
+-- HOWEVER IT IS CUT: two runs over one stream, in whatever buffers, with the same ring and answers, that both came to a last word, have
+-- the same events at the same places, and hand out the same blocks and values.
+pub two-cuttings : (keys : KeyRing) (h b q h′ b′ q′ : List ℕ) (S : List ℕ) (ks ls : List Call)
+    → Resumes S (plainCalls keys h b q ks) (words keys h b q ks) → Resumes S (plainCalls keys h′ b′ q′ ls) (words keys h′ b′ q′ ls)
+    → answers keys h b q ks ≡ answers keys h′ b′ q′ ls
+    → standing (events (words keys h b q ks)) ≡ over → standing (events (words keys h′ b′ q′ ls)) ≡ over
+    → events (words keys h b q ks) ≡ events (words keys h′ b′ q′ ls)
+two-cuttings keys h b q h′ b′ q′ S ks ls c d same x y =
+    demand-3 keys h b q ks .whole-stream S c .complete x
+    ∙ ap (λ (a : List Bool). toldLog (plainReading (ringOf keys) S a true)) same
+    ∙ sym (demand-3 keys h′ b′ q′ ls .whole-stream S d .complete y)

@@ -1,20 +1,26 @@
 -- THE LENT RING. Demand 3 holds where each feed is lent its ring as a table of records: such a run is the run with the ring by value.
 -- Assumes nothing.
 use mathlib.Core.Path.{_≡_, refl, sym, ap, _∙_}
-use mathlib.Core.Bool.{false}
-use mathlib.Core.List.{List, [], _∷_}
-use Prim.Native.Nat.{ℕ}
-use Rattle.ring.specs.Keys.{ringOf}
+use mathlib.Core.Bool.{true, false}
+use mathlib.Core.List.{List, [], _∷_, map}
+use Prim.Native.Nat.{ℕ, _≤_}
+use lib.ListN.{length}
+use Rattle.ring.specs.Keys.{trustedOf}
 use Rattle.ring.specs.declared.KeyRecord.{KeyRecord}
 use Rattle.sections.specs.Calls.{Request, feed, answer, end}
 use Rattle.lent.specs.Table.{keysOf}
-use Rattle.lent.proofs.TableLaws.{feed-lent, count-fits}
+use Rattle.lent.proofs.TableLaws.{feed-lent, count-fits, ring-lent}
 use Rattle.steps.specs.Desk.{Desk, desk}
 use Rattle.reader.specs.Call as R
 use Rattle.reader.specs.Parts.{freshReader}
-use Rattle.agreement.specs.Plain.{plainlyShown}
-use Rattle.agreement.specs.Run.{ringFits, loanFits, Call, called, runCall, seen, runFrom, run, plainCalls}
+use Rattle.stream.specs.Limits.{ringLimit}
+use Rattle.stream.specs.Stream.{plainReading}
+use Rattle.sections.specs.Resuming.{Resumes, events, answersHeard, Tracks}
+use Rattle.agreement.specs.Shown.{outs}
+use Rattle.agreement.specs.Plain.{toldLog, plainlyShown}
+use Rattle.agreement.specs.Run.{Call, called, runCall, seen, runFrom, run, plainCalls}
 use Rattle.agreement.specs.Run as Run
+use Rattle.agreement.specs.Loans.{ringFits, loanFits}
 use Rattle.claims.specs.Lent.{tableFits, lentFits, LentCall, same, other, lentCalled, lentRunCall, lentRunFrom, lentRun}
 use Rattle.claims.proofs.Demand3.{demand-3}
 
@@ -55,9 +61,24 @@ run-lent records (k ∷ ks) d =
     let e = call-lent records d k in
     λ i. seen (e i) ∷ (ap (λ (c : R.Call). lentRunFrom records (c .after) ks) e ∙ run-lent records ks (runCall (keysOf records) d (byValue k) .after)) i
 
--- What a caller sees of any list of calls with lent tables is what the plain reading gives with the ring of these records.
-pub lent-ring : (records : List KeyRecord) (h b q : List ℕ) (ks : List LentCall)
-    → lentRun records h b q ks ≡ plainlyShown (ringOf (keysOf records)) (plainCalls (keysOf records) h b q (allByValue ks))
+-- A run with lent tables is the run with the ring by value, so that all that is claimed of the one holds of the other.
+pub lent-run : (records : List KeyRecord) (h b q : List ℕ) (ks : List LentCall) → lentRun records h b q ks ≡ run (keysOf records) h b q (allByValue ks)
 unfolding lentRun run
-lent-ring records h b q ks =
-    run-lent records ks (desk freshReader h b q) ∙ demand-3 (keysOf records) h b q (allByValue ks) .each-call
+lent-run records h b q ks = run-lent records ks (desk freshReader h b q)
+
+-- Demand 3, once more, with the records that are lent in place of the ring.
+pub record LentRing (records : List KeyRecord) (h b q : List ℕ) (ks : List LentCall) : Type 0 where
+  pub each-call : lentRun records h b q ks ≡ plainlyShown (map trustedOf records) (plainCalls (keysOf records) h b q (allByValue ks))
+  pub whole-stream : (S : List ℕ) → Resumes S (plainCalls (keysOf records) h b q (allByValue ks)) (outs (lentRun records h b q ks))
+      → Tracks (events (outs (lentRun records h b q ks)))
+      (toldLog (plainReading (map trustedOf records) S (answersHeard (plainCalls (keysOf records) h b q (allByValue ks)) (outs (lentRun records h b q ks))) true))
+
+-- With at most 16 records; with more, every feed is refused with 2.
+pub lent-ring : (records : List KeyRecord) (h b q : List ℕ) (ks : List LentCall) → length records ≤ ringLimit → LentRing records h b q ks
+lent-ring records h b q ks m =
+    let e = lent-run records h b q ks in
+    let c = demand-3 (keysOf records) h b q (allByValue ks) in
+    record {
+      each-call = rw (← ring-lent records m) (e ∙ c .each-call);
+      whole-stream = λ S r. rw (← ring-lent records m, e) (c .whole-stream S (rw e at r));
+    }

@@ -4,3 +4,4 @@ pub mod Told
 pub mod Demand2
 pub mod DayTally
 pub mod LentRing
+pub mod Reached

@@ -9,6 +9,7 @@ use Rattle.stream.specs.Events.{Question, Release, headAccepted, block, LastWor
 use Rattle.agreement.specs.Shown.{Told}
 use Rattle.agreement.specs.Shown as S
 use Rattle.agreement.specs.Plain.{told, toldEvent, toldLog}
+use Rattle.agreement.proofs.Streams.{log-append}
 use Rattle.exactness.specs.Telling.{Stands, released}
 use Rattle.claims.specs.Body.{bytesTold, bodyTold}
 
@@ -39,11 +40,6 @@ block-from (last l) o b x = absurd (true≢false (sym (ap isBlock x)))
 
 stands-on : {A : Type 0} (x y : A) (l : List A) → Stands x l → Stands x (y ∷ l)
 stands-on x y l s = record { before = y ∷ s .before; after = s .after; joined = ap (λ (m : List _). y ∷ m) (s .joined) }
-
-log-told : (l m : Log Question Release LastWord) → toldLog (l ++ m) ≡ toldLog l ++ toldLog m
-unfolding toldLog
-log-told [] m = refl
-log-told (x ∷ l) m = ap (λ (t : Log Question Told LastWord). (x .0, toldEvent (x .1)) ∷ t) (log-told l m)
 
 abbrev isEmpty : {A : Type 0} → List A → Bool
 isEmpty [] = true
@@ -79,7 +75,7 @@ module _ (at o : ℕ) (b : List ℕ) where
       record {
         before = toldLog (s .before);
         after = toldLog (s .after);
-        joined = sym (log-told (s .before) ((at, message (block o b)) ∷ s .after)) ∙ ap toldLog (s .joined);
+        joined = sym (log-append (s .before) ((at, message (block o b)) ∷ s .after)) ∙ ap toldLog (s .joined);
       }
 
   pub told-block : (log : Log Question Release LastWord) → Stands (at, message (told (block o b))) (toldLog log) → Stands (at, message (block o b)) log

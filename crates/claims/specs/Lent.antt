@@ -12,9 +12,9 @@ use Rattle.stream.specs.Limits.{ringLimit}
 use Rattle.lent.specs.Table.{lentFeedOf}
 use Rattle.steps.specs.Desk.{Desk, desk}
 use Rattle.reader.specs.Call as R
-use Rattle.reader.specs.Call.{areRoomy}
 use Rattle.reader.specs.Answer.{answerOf, endOf}
 use Rattle.reader.specs.Parts.{freshReader}
+use Rattle.agreement.specs.Loans.{haveRoom}
 use Rattle.agreement.specs.Shown.{Shown}
 use Rattle.agreement.specs.Run.{seen}
 
@@ -25,7 +25,7 @@ tableFits records (answer good) = true
 tableFits records end = true
 
 abbrev pub lentFits : List ℕ → List ℕ → List ℕ → List KeyRecord → Request → Bool
-lentFits h b q records r = areRoomy h b q && tableFits records r
+lentFits h b q records r = haveRoom h b q && tableFits records r
 
 -- as in the run with the ring by value: a call that is refused with 2 may be lent anything
 pub data LentCall : Type 0 where

@@ -1,3 +1,5 @@
 pub mod Body
+pub mod Runs
 pub mod Lent
 pub mod Words
+pub mod Ordinary

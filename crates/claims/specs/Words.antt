@@ -1,11 +1,16 @@
--- The words that the calls of a run return, as the day tally is given them. Assumes nothing.
-use mathlib.Core.List.{List, [], _∷_}
+-- A day of streams, and the words that their calls return, as the day tally is given them. Assumes nothing.
+use mathlib.Core.List.{List, [], _∷_, _++_}
 use Prim.Native.Nat.{ℕ}
+use Rattle.ring.specs.Keys.{ringOf}
 use Rattle.ring.specs.declared.KeyRing.{KeyRing}
+use Rattle.sections.specs.Reading.{Log}
+use Rattle.stream.specs.Events.{Question, Release, LastWord}
+use Rattle.stream.specs.Stream.{plainReading}
 use Rattle.steps.specs.Desk.{Desk, desk}
 use Rattle.steps.specs.declared.state.Word.{Word}
 use Rattle.reader.specs.Parts.{freshReader}
 use Rattle.agreement.specs.Run.{Call, runCall}
+use Rattle.claims.specs.Runs.{taken, answers, ended}
 
 unfoldable pub wordsFrom : KeyRing → Desk → List Call → List Word
 wordsFrom keys d [] = []
@@ -14,3 +19,26 @@ wordsFrom keys d (k ∷ ks) = runCall keys d k .word ∷ wordsFrom keys (runCall
 -- of a list of calls from a fresh reader, as in `run`
 unfoldable pub wordsOfRun : KeyRing → List ℕ → List ℕ → List ℕ → List Call → List Word
 wordsOfRun keys h b q ks = wordsFrom keys (desk freshReader h b q) ks
+
+-- ---- a day
+
+-- one stream: its ring, the buffers as first lent, and the calls
+pub record Sitting : Type 0 where
+  pub keys : KeyRing
+  pub head : List ℕ
+  pub block : List ℕ
+  pub question : List ℕ
+  pub calls : List Call
+
+-- the words of all calls of a day's streams
+unfoldable pub dayWords : List Sitting → List Word
+dayWords [] = []
+dayWords (s ∷ ss) = wordsOfRun (s .keys) (s .head) (s .block) (s .question) (s .calls) ++ dayWords ss
+
+-- the events of the plain readings of what these calls took
+abbrev pub eventsRead : KeyRing → List ℕ → List ℕ → List ℕ → List Call → Log Question Release LastWord
+eventsRead keys h b q ks = plainReading (ringOf keys) (taken keys h b q ks) (answers keys h b q ks) (ended keys h b q ks)
+
+unfoldable pub dayEvents : List Sitting → Log Question Release LastWord
+dayEvents [] = []
+dayEvents (s ∷ ss) = eventsRead (s .keys) (s .head) (s .block) (s .question) (s .calls) ++ dayEvents ss

@@ -15,7 +15,7 @@ use Rattle.ring.specs.declared.KeyRecord.{KeyRecord}
 use Rattle.ring.specs.declared.KeyRing.{KeyRing}
 use Rattle.stream.specs.Limits.{ringLimit}
 use Rattle.steps.specs.Desk.{Desk}
-use Rattle.reader.specs.Call.{Call, fits}
+use Rattle.reader.specs.Call.{fits}
 use Rattle.reader.specs.Feed.{feedOf}
 use Rattle.lent.specs.Table.{lentFeedOf, looked, placed, keysOf, withNext}
 

@@ -22,13 +22,13 @@ counts-same p q r s = λ i. counts (p i) (q i) (r i) (s i)
 tally-same : {t u : Tally} → t .blocks ≡ u .blocks → t .bytes ≡ u .bytes → t .closed ≡ u .closed → t .refused ≡ u .refused → t ≡ u
 tally-same p q r s = λ i. record { blocks = p i; bytes = q i; closed = r i; refused = s i }
 
-together-assoc : (a b c : Counts) → together (together a b) c ≡ together a (together b c)
+pub together-assoc : (a b c : Counts) → together (together a b) c ≡ together a (together b c)
 together-assoc a b c = counts-same (omega arith) (omega arith) (omega arith) (omega arith)
 
 together-nothing : (a : Counts) → together a nothing ≡ a
 together-nothing a = counts-same (omega arith) (omega arith) (omega arith) (omega arith)
 
-nothing-together : (a : Counts) → together nothing a ≡ a
+pub nothing-together : (a : Counts) → together nothing a ≡ a
 nothing-together a = counts-same (omega arith) (omega arith) (omega arith) (omega arith)
 
 -- ---- one word

@@ -1,0 +1,110 @@
+-- The key ring is read only when the head is judged (paper 01, "The head"): after the head, a feed does the same with any ring that
+-- will do, whatever the state. Assumes nothing.
+use mathlib.Core.Path.{_≡_, refl}
+use mathlib.Core.Bool.{Bool, true, false, true≢false}
+use mathlib.Core.List.{List, [], _∷_}
+use Prim.Native.Nat.{ℕ, _+_}
+use lib.Dec.{eqb, leb}
+use lib.ListN.{length, take, set, getD}
+use Rattle.octets.specs.Choice.{pick}
+use Rattle.chunk.specs.declared.judging.LineAnswer.{LineAnswer}
+use Rattle.chunk.specs.declared.judging.LineAnswer.the-variants as A
+use Rattle.ring.specs.Keys.{ringOf}
+use Rattle.ring.specs.declared.KeyRing.{KeyRing}
+use Rattle.stream.specs.Blocks.{isWholeLine}
+use Rattle.stream.specs.Bytes.{same}
+use Rattle.stream.specs.Limits.{lineLimit, ringLimit}
+use Rattle.stream.specs.Lines.{crlf}
+use Rattle.stream.specs.Ring.{Ring}
+use Rattle.stream.specs.Trailer.{isWholeTrailer, isTrailer}
+use Rattle.steps.specs.Desk.{Desk, Next, on, stop, refuse}
+use Rattle.steps.specs.Push.{pushData, pushDataEnd, firstAnswered, firstGathered, pushFirstLine, nextAnswered, nextGathered, pushNextLine, trailerGathered, pushTrailer}
+use Rattle.steps.specs.Push as Push
+use Rattle.steps.specs.Run.{follow, runOf}
+use Rattle.steps.specs.declared.state.Phase.{Phase}
+use Rattle.steps.specs.declared.state.Phase.the-variants as P
+use Rattle.reader.specs.Call.{recalled}
+use Rattle.reader.specs.Feed.{pushAt, pushByte, takenFrom, feedOf}
+use Rattle.agreement.specs.Due.{isInHead}
+
+-- the byte does not lead back into the head
+abbrev Past : Next → Type 0
+Past (on d) = isInHead (d .reader .phase) ≡ false
+Past (stop w signature d) = Unit {0}
+
+past-pick : (t : Bool) (m n : Next) → Past m → Past n → Past (pick t m n)
+past-pick true m n a b = a
+past-pick false m n a b = b
+
+past-phase : (t : Bool) (p q : Phase) → isInHead p ≡ false → isInHead q ≡ false → isInHead (pick t p q) ≡ false
+past-phase true p q a b = a
+past-phase false p q a b = b
+
+past-refuse : (n count : ℕ) (d : Desk) → Past (refuse n count d)
+unfolding refuse
+past-refuse n count d = tt
+
+past-first : (d : Desk) (a : LineAnswer) → Past (firstAnswered d a)
+unfolding firstAnswered
+past-first d (A.Refused n) = past-refuse n 0 d
+past-first d (A.Good size) = past-phase (eqb size 0) (P.Trailer 0 0) (P.Data 0 size) refl refl
+
+past-next : (d : Desk) (size : ℕ) (a : LineAnswer) (signature : List ℕ) → Past (nextAnswered d size a signature)
+unfolding nextAnswered Push.asked
+past-next d size (A.Refused n) signature = past-refuse n size d
+past-next d size (A.Good next) signature = tt
+
+past-push : (ring : Ring) (d : Desk) (p : Phase) (x : ℕ) → isInHead p ≡ false → Past (pushAt ring p d x)
+unfolding pushAt pushData pushDataEnd pushFirstLine firstGathered pushNextLine nextGathered pushTrailer trailerGathered
+past-push ring d (P.Head have) x e = absurd (true≢false e)
+past-push ring d (P.HeadAsked n) x e = tt
+past-push ring d (P.FirstLine have) x e =
+    past-pick (leb lineLimit have) _ _ (past-refuse 6 0 d)
+    (past-pick (isWholeLine (take (have + 1) (set (d .reader .line) have x))) _ _ (past-first _ _) refl)
+past-push ring d (P.Data have size) x e =
+    past-pick (leb (length (d .block)) have) _ _ (past-refuse 6 have d)
+    (past-phase (leb size (have + 1)) (P.DataEnd 0 size) (P.Data (have + 1) size) refl refl)
+past-push ring d (P.DataEnd have size) x e =
+    past-pick (eqb have 0) _ _ refl (past-pick (same (getD (d .reader .line) 0 0 ∷ x ∷ []) crlf) _ _ refl (past-refuse 6 size d))
+past-push ring d (P.NextLine have size) x e =
+    past-pick (leb lineLimit have) _ _ (past-refuse 6 size d)
+    (past-pick (isWholeLine (take (have + 1) (set (d .reader .line) have x))) _ _ (past-next _ size _ _) refl)
+past-push ring d (P.BlockAsked size next) x e = tt
+past-push ring d (P.Trailer have total) x e =
+    let text = take (have + 1) (set (d .block) have x) in
+    past-pick (leb (length (d .block)) have) _ _ (past-refuse 6 have d)
+    (past-pick (isWholeTrailer text) _ _ (past-pick (isTrailer text) _ _ tt (past-refuse 6 (have + 1) _)) refl)
+past-push ring d (P.Closed total) x e = tt
+past-push ring d (P.Refused n) x e = tt
+
+push-same : (ring ring′ : Ring) (d : Desk) (p : Phase) (x : ℕ) → isInHead p ≡ false → pushAt ring p d x ≡ pushAt ring′ p d x
+unfolding pushAt
+push-same ring ring′ d (P.Head have) x e = absurd (true≢false e)
+push-same ring ring′ d (P.HeadAsked n) x e = refl
+push-same ring ring′ d (P.FirstLine have) x e = refl
+push-same ring ring′ d (P.Data have size) x e = refl
+push-same ring ring′ d (P.DataEnd have size) x e = refl
+push-same ring ring′ d (P.NextLine have size) x e = refl
+push-same ring ring′ d (P.BlockAsked size next) x e = refl
+push-same ring ring′ d (P.Trailer have total) x e = refl
+push-same ring ring′ d (P.Closed total) x e = refl
+push-same ring ring′ d (P.Refused n) x e = refl
+
+run-same : (ring ring′ : Ring) (xs : List ℕ) (d : Desk) (t : ℕ) → isInHead (d .reader .phase) ≡ false
+    → runOf (pushByte ring) d t xs ≡ runOf (pushByte ring′) d t xs
+unfolding runOf
+run-same ring ring′ [] d t e = refl
+run-same ring ring′ (x ∷ xs) d t e =
+    rw (push-same ring ring′ d (d .reader .phase) x e)
+    (by (pushByte ring′ d x) (past-push ring′ d (d .reader .phase) x e) (λ d′ f. run-same ring ring′ xs d′ (t + 1) f))
+  where
+    by : (n : Next) → Past n → ((d′ : Desk) → isInHead (d′ .reader .phase) ≡ false → runOf (pushByte ring) d′ (t + 1) xs ≡ runOf (pushByte ring′) d′ (t + 1) xs)
+        → follow n (t + 1) (λ d′. runOf (pushByte ring) d′ (t + 1) xs) ≡ follow n (t + 1) (λ d′. runOf (pushByte ring′) d′ (t + 1) xs)
+    by (on d′) p ih = ih d′ p
+    by (stop w signature d′) p ih = refl
+
+-- AFTER THE HEAD two rings that will do give the same feed.
+pub ring-unread : (keys keys′ : KeyRing) (d : Desk) (piece : List ℕ) → isInHead (d .reader .phase) ≡ false
+    → leb (keys .count) ringLimit ≡ true → leb (keys′ .count) ringLimit ≡ true → feedOf keys d piece ≡ feedOf keys′ d piece
+unfolding feedOf takenFrom
+ring-unread keys keys′ d piece e f g = rw (f, g, run-same (ringOf keys) (ringOf keys′) piece (recalled d) 0 e)

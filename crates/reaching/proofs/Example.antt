@@ -1,0 +1,38 @@
+-- The caller over a stream of the toy protocol, call by call, to say what is meant; and over document 000's example, which is an
+-- honest show, so that the theorem about honest shows speaks of at least one. Assumes nothing.
+use mathlib.Core.Path.{_≡_, refl}
+use mathlib.Core.Bool.{true}
+use mathlib.Core.List.{List, [], _∷_}
+use Prim.Native.Nat.{ℕ}
+use Rattle.sections.specs.Calls.{feed, answer, Call, call}
+use Rattle.sections.specs.Machine.{step, fed, respond, turn}
+use Rattle.sections.proofs.Toy.{line, lastIs, says, toy, sample}
+use Rattle.stream.proofs.Example.{ring}
+use Rattle.exactness.proofs.Example.{example, example-honest}
+use Rattle.reaching.specs.Driver.{wellLent, handOver, requestsOver, callsOver}
+use Rattle.reaching.specs.Outcome.{showCalls, showOuts, ComesOut}
+use Rattle.reaching.proofs.Reaching.{honest-reached}
+
+-- ---- the toy protocol
+
+-- Pieces of 2, 0 and 4 bytes, and then all that is left. Of the third piece one byte is taken, as it decides a question; its
+-- other three are the beginning of the fourth. The byte after the last word stays with the caller.
+toyCalls : List Call
+toyCalls =
+    call true (feed (65 ∷ 120 ∷ []))
+    ∷ call true (feed [])
+    ∷ call true (feed (10 ∷ 66 ∷ 10 ∷ 104 ∷ []))
+    ∷ call true (answer true)
+    ∷ call true (feed (66 ∷ 10 ∷ 104 ∷ 105 ∷ 67 ∷ 10 ∷ 7 ∷ []))
+    ∷ call true (feed (67 ∷ 10 ∷ 7 ∷ []))
+    ∷ call true (answer true)
+    ∷ []
+
+toy-calls : callsOver toy line (2 ∷ 0 ∷ 4 ∷ []) sample ≡ toyCalls
+unfolding toyCalls wellLent requestsOver handOver step fed respond turn toy lastIs says sample
+toy-calls = refl
+
+-- ---- an honest show
+
+pub example-reached : (lengths : List ℕ) → ComesOut ring example (showCalls ring lengths example) (showOuts ring lengths example)
+example-reached lengths = honest-reached ring example lengths example-honest

@@ -1,0 +1,4 @@
+pub mod Ahead
+pub mod Arriving
+pub mod Reaching
+pub mod Example

@@ -1,0 +1,38 @@
+-- What the ordinary caller is to get of an honest show. Assumes nothing.
+use mathlib.Core.Path.{_≡_}
+use mathlib.Core.Bool.{true}
+use mathlib.Core.List.{List, [], _∷_, _++_}
+use Prim.Native.Nat.{ℕ, suc}
+use lib.ListN.{length, replicate}
+use Rattle.sections.specs.Reading.{last, Log}
+use Rattle.sections.specs.Calls.{Call, Out, over, standing}
+use Rattle.sections.specs.Machine.{runCalls}
+use Rattle.sections.specs.Resuming.{Resumes, events, bytesTaken, answersHeard}
+use Rattle.stream.specs.Events.{Question, Release, LastWord, closed}
+use Rattle.stream.specs.Ring.{Ring}
+use Rattle.stream.specs.Stream.{head, rules}
+use Rattle.exactness.specs.ShowEvents.{showEvents}
+use Rattle.exactness.specs.Shows.{WholeShow, joined, streamOf}
+use Rattle.reaching.specs.Driver.{callsOver}
+
+module _ (ring : Ring) where
+  -- the caller's calls, for any lengths of the pieces, and what they return
+  abbrev pub showCalls : List ℕ → WholeShow → List Call
+  showCalls lengths s = callsOver (rules ring) head lengths (streamOf s)
+
+  abbrev pub showOuts : List ℕ → WholeShow → List (Out Question Release LastWord)
+  showOuts lengths s = runCalls (rules ring) head (showCalls lengths s)
+
+  pub record ComesOut (s : WholeShow) (ks : List Call) (os : List (Out Question Release LastWord)) : Type 0 where
+    -- each piece begins at the first byte not taken
+    pub resumes : Resumes (streamOf s) ks os
+    -- all of the stream is taken
+    pub took : bytesTaken ks os ≡ streamOf s
+    -- a yes is heard for the head and for each block, and no other answer
+    pub yeses : answersHeard ks os ≡ replicate (suc (length (s .chunks))) true
+    -- the events, with their places, are those computed from the show
+    pub all-events : events os ≡ showEvents ring s
+    -- the last of them, at the place of all bytes, is *closed* with the length of the body; it is a last word, and the run is over
+    pub before-closed : Log Question Release LastWord
+    pub then-closed : events os ≡ before-closed ++ (length (streamOf s), last (closed (length (joined (s .chunks))))) ∷ []
+    pub is-over : standing (events os) ≡ over
