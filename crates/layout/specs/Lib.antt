@@ -1,0 +1,4 @@
+pub mod Parts
+pub mod State
+pub mod Keys
+pub mod Results

@@ -1,0 +1,114 @@
+-- The reader's state as bytes. Assumes nothing.
+use mathlib.Core.List.{List, [], _∷_, _++_}
+use Prim.Native.Nat.{ℕ, _%_}
+use lib.Dec.{eqb, leb}
+use lib.ListN.{length}
+use lib.Seq.{sets}
+use Rattle.octets.specs.Choice.{pick}
+use Rattle.stream.specs.Limits.{idLimit, lineLimit}
+use Rattle.steps.specs.declared.state.Phase.{Phase}
+use Rattle.steps.specs.declared.state.Phase.the-variants as P
+use Rattle.steps.specs.declared.state.Reader.{Reader}
+use Rattle.layout.specs.Parts.{bytesOf, allBytes, part, numberAt}
+
+-- how many bytes a state takes
+abbrev pub stateSize : ℕ
+stateSize = 336
+
+-- ---- a phase as three numbers
+
+abbrev pub tagOf : Phase → ℕ
+tagOf (P.Head n) = 0
+tagOf (P.HeadAsked n) = 1
+tagOf (P.FirstLine n) = 2
+tagOf (P.Data have size) = 3
+tagOf (P.DataEnd have size) = 4
+tagOf (P.NextLine have size) = 5
+tagOf (P.BlockAsked size next) = 6
+tagOf (P.Trailer have total) = 7
+tagOf (P.Closed total) = 8
+tagOf (P.Refused n) = 9
+
+abbrev pub firstOf : Phase → ℕ
+firstOf (P.Head n) = n
+firstOf (P.HeadAsked n) = n
+firstOf (P.FirstLine n) = n
+firstOf (P.Data have size) = have
+firstOf (P.DataEnd have size) = have
+firstOf (P.NextLine have size) = have
+firstOf (P.BlockAsked size next) = size
+firstOf (P.Trailer have total) = have
+firstOf (P.Closed total) = total
+firstOf (P.Refused n) = n
+
+abbrev pub secondOf : Phase → ℕ
+secondOf (P.Head n) = 0
+secondOf (P.HeadAsked n) = 0
+secondOf (P.FirstLine n) = 0
+secondOf (P.Data have size) = size
+secondOf (P.DataEnd have size) = size
+secondOf (P.NextLine have size) = size
+secondOf (P.BlockAsked size next) = next
+secondOf (P.Trailer have total) = total
+secondOf (P.Closed total) = 0
+secondOf (P.Refused n) = 0
+
+-- the number of a refusal, 0 where there is none
+abbrev pub refusalOf : Phase → ℕ
+refusalOf (P.Head n) = 0
+refusalOf (P.HeadAsked n) = 0
+refusalOf (P.FirstLine n) = 0
+refusalOf (P.Data have size) = 0
+refusalOf (P.DataEnd have size) = 0
+refusalOf (P.NextLine have size) = 0
+refusalOf (P.BlockAsked size next) = 0
+refusalOf (P.Trailer have total) = 0
+refusalOf (P.Closed total) = 0
+refusalOf (P.Refused n) = n
+
+-- the number of a refusal is one byte: of a larger one the lowest byte counts; any other tag is a refusal
+unfoldable pub phaseOf : ℕ → ℕ → ℕ → Phase
+phaseOf tag a b =
+    pick (eqb tag 0) (P.Head a)
+    (pick (eqb tag 1) (P.HeadAsked a)
+    (pick (eqb tag 2) (P.FirstLine a)
+    (pick (eqb tag 3) (P.Data a b)
+    (pick (eqb tag 4) (P.DataEnd a b)
+    (pick (eqb tag 5) (P.NextLine a b)
+    (pick (eqb tag 6) (P.BlockAsked a b)
+    (pick (eqb tag 7) (P.Trailer a b)
+    (pick (eqb tag 8) (P.Closed a)
+    (pick (eqb tag 9) (P.Refused (a % 256)) (P.Refused 0))))))))))
+
+-- ---- the whole state
+
+-- tag, counts and what the head says; the id; its length and the number of the block; its hash; the line; what is released
+unfoldable pub encoded : Reader → List ℕ
+encoded r =
+    allBytes (tagOf (r .phase) ∷ firstOf (r .phase) ∷ secondOf (r .phase) ∷ r .accepted ∷ r .status ∷ r .«block_size» ∷ r .key ∷ [])
+    ++ r .id
+    ++ allBytes (r .«id_length» ∷ r .number .0 ∷ [])
+    ++ r .hash
+    ++ r .line
+    ++ bytesOf 8 (r .released)
+
+-- written over the front of a buffer; one that is too short is left as it is
+unfoldable pub stored : Reader → List ℕ → List ℕ
+stored r l = pick (leb stateSize (length l)) (sets l 0 (encoded r)) l
+
+-- the state that any bytes say
+unfoldable pub decoded : List ℕ → Reader
+decoded l =
+    record {
+      phase = phaseOf (numberAt l 0) (numberAt l 8) (numberAt l 16);
+      accepted = numberAt l 24;
+      status = numberAt l 32;
+      «block_size» = numberAt l 40;
+      key = numberAt l 48;
+      id = part l 56 idLimit;
+      «id_length» = numberAt l 120;
+      number = record { 0 = numberAt l 128 };
+      hash = part l 136 64;
+      line = part l 200 lineLimit;
+      released = numberAt l 328;
+    }

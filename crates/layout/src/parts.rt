@@ -1,0 +1,123 @@
+// Numbers and runs of bytes, read from a buffer and written over it.
+ghost use mathlib.Core.Path.{_≡_};
+ghost use Prim.Native.Nat.{_+_, _*_, _%_, _≤_};
+ghost use lib.ListN.{length, getD};
+ghost use lib.Seq.{sets};
+ghost use Rattle.layout.specs.Parts.{bytesOf, allBytes, part, numberAt, placing, placed};
+
+// The byte at a place, 0 past the end.
+fn byte_at(from: &[u8], i: usize) -> u8
+    ensures { λ r. ⌜ r ≡ getD (now (from .entry)) i 0 ⌝ }
+{
+    if i < from.len() {
+        return from[i];
+    }
+    0
+}
+
+// Two bytes, the lower first, as a number; then two such numbers, and two of those.
+fn pair(low: u8, high: u8) -> u16
+    ensures { λ r. ⌜ r ≡ low + 256 * high ⌝ }
+{
+    low as u16 + 256 * (high as u16)
+}
+
+fn quad(low: u16, high: u16) -> u32
+    ensures { λ r. ⌜ r ≡ low + 65536 * high ⌝ }
+{
+    low as u32 + 65_536 * (high as u32)
+}
+
+fn joined(low: u32, high: u32) -> u64
+    ensures { λ r. ⌜ r ≡ low + 4294967296 * high ⌝ }
+{
+    low as u64 + 4_294_967_296 * (high as u64)
+}
+
+// Four bytes from the place `at` on.
+fn quad_at(from: &[u8], at: usize) -> u32
+    requires { ⌜ at ≤ 65536 ⌝ }
+    ensures { λ r. ⌜ r ≡ getD (now (from .entry)) at 0 + 256 * getD (now (from .entry)) (at + 1) 0 + 65536 * (getD (now (from .entry)) (at + 2) 0 + 256 * getD (now (from .entry)) (at + 3) 0) ⌝ }
+{
+    let low = pair(byte_at(from, at), byte_at(from, at + 1));
+    let high = pair(byte_at(from, at + 2), byte_at(from, at + 3));
+    quad(low, high)
+}
+
+// The number that eight bytes write, from the place `at` on.
+pub(crate) fn number_at(from: &[u8], at: usize) -> u64
+    requires { ⌜ at ≤ 32768 ⌝ }
+    ensures { λ r. ⌜ r ≡ numberAt (now (from .entry)) at ⌝ }
+{
+    joined(quad_at(from, at), quad_at(from, at + 4))
+}
+
+// Fills `to` from the place `at` on.
+pub(crate) fn copy_part(to: &mut [u8], from: &[u8], at: usize)
+    requires { ⌜ at + length (now to) ≤ 65536 ⌝ }
+    ensures { λ _. ⌜ now (to .exit) ≡ part (now (from .entry)) at (length (now (to .entry))) ⌝ }
+{
+    let mut i = 0;
+    while i < to.len() {
+        let x = byte_at(from, at + i);
+        to[i] = x;
+        i += 1;
+    }
+}
+
+fn low_byte(n: u64) -> u8
+    ensures { λ r. ⌜ r ≡ n % 256 ⌝ }
+{
+    (n % 256) as u8
+}
+
+// Writes a number over eight bytes, from the place `at` on.
+pub(crate) fn put_number(to: &mut [u8], at: usize, n: u64)
+    requires { ⌜ at + 8 ≤ length (now to) ⌝ }
+    ensures { λ _. ⌜ now (to .exit) ≡ sets (now (to .entry)) at (bytesOf 8 n) ⌝ }
+{
+    let mut rest = n;
+    let mut i = 0;
+    while i < 8 {
+        let x = low_byte(rest);
+        to[at + i] = x;
+        rest = rest / 256;
+        i += 1;
+    }
+}
+
+// Writes numbers over eight bytes each, from the place `at` on.
+pub(crate) fn put_numbers(to: &mut [u8], at: usize, numbers: &[u64])
+    requires { ⌜ at + 8 * length (now numbers) ≤ length (now to) ⌝ }
+    ensures { λ _. ⌜ now (to .exit) ≡ sets (now (to .entry)) at (allBytes (now (numbers .entry))) ⌝ }
+{
+    let mut i = 0;
+    while i < numbers.len() {
+        put_number(to, at + 8 * i, numbers[i]);
+        i += 1;
+    }
+}
+
+// Writes bytes over as many, from the place `at` on.
+pub(crate) fn put_bytes(to: &mut [u8], at: usize, from: &[u8])
+    requires { ⌜ at + length (now from) ≤ length (now to) ⌝ }
+    ensures { λ _. ⌜ now (to .exit) ≡ sets (now (to .entry)) at (now (from .entry)) ⌝ }
+{
+    let mut i = 0;
+    while i < from.len() {
+        to[at + i] = from[i];
+        i += 1;
+    }
+}
+
+// Writes bytes over the front of a buffer, all of them or, where they do not fit, none. How many they are is the answer.
+pub fn place(bytes: &[u8], to: &mut [u8]) -> usize
+    ensures { λ r. ⌜ placing r (now (to .exit)) ≡ placed (now (bytes .entry)) (now (to .entry)) ⌝ }
+{
+    let n = bytes.len();
+    if to.len() < n {
+        return n;
+    }
+    put_bytes(to, 0, bytes);
+    n
+}

@@ -1,0 +1,52 @@
+-- A list of exported calls shows what the reader's own list of calls shows: what is proved of the one holds of the other. Assumes nothing.
+use mathlib.Core.List.{List, _∷_, map}
+use mathlib.Core.Path.{_≡_, refl, ap, _∙_}
+use Prim.Native.Nat.{ℕ}
+use Rattle.layout.specs.Keys.{keysIn}
+use Rattle.layout.specs.State.{decoded}
+use Rattle.reader.specs.Call.{Call}
+use Rattle.reader.specs.Parts.{freshReader}
+use Rattle.sections.specs.Calls.{Request, feed, answer, end}
+use Rattle.steps.specs.Desk.{Desk, desk}
+use Rattle.steps.specs.declared.state.Reader.{Reader}
+use Rattle.reader_export.specs.Export.{Answer, answered, called, deskIn}
+use Rattle.reader_export.specs.Lists.{Ask, callIn, Kept, Calls, over, next, callOf, Seen, seenIn, seenOf, runOf}
+
+-- a call on bytes is the reader's, on the state that they say
+call-is : (ring s h b q : List ℕ) (r : Request) → callIn ring s h b q r ≡ callOf (keysIn ring) (deskIn s h b q) r
+call-is ring s h b q (feed piece) = refl
+call-is ring s h b q (answer good) = refl
+call-is ring s h b q end = refl
+
+module _ (ring s h b q : List ℕ) (k : Ask) (a : Answer) (e : Kept ring s h b q k a) where
+  abbrev made : Call
+  made = callIn ring s h b q (k .request)
+
+  answer-is : a ≡ answered s (k .result) made
+  unfolding called
+  answer-is = e .whole ∙ (rw (e .long))
+
+  -- the reader and the buffers after it
+  desk-is : deskIn (a .state) (a .head) (a .block) (a .question) ≡ made .after
+  desk-is =
+      ap (λ (r : Reader). desk r (a .head) (a .block) (a .question)) (e .carried)
+      ∙ ap (λ (x : Answer). desk (made .after .reader) (x .head) (x .block) (x .question)) answer-is
+
+  seen-is : seenIn a ≡ seenOf (k .result) made
+  seen-is =
+      ap (λ (d : Desk). record { word = a .word; result = a .result; after = d }) desk-is
+      ∙ ap (λ (x : Answer). record { word = x .word; result = x .result; after = made .after }) answer-is
+
+pub calls-seen : {ring s h b q : List ℕ} {ks : List Ask} {told : List Answer} → Calls ring s h b q ks told → map seenIn told ≡ runOf (keysIn ring) (deskIn s h b q) ks
+unfolding runOf
+calls-seen over = refl
+calls-seen {ring} {s} {h} {b} {q} (next {k = k} {a = a} {ks = ks} e es) =
+    let m = call-is ring s h b q (k .request) in
+    ap (λ (l : List Seen). seenIn a ∷ l) (calls-seen es ∙ ap (λ (d : Desk). runOf (keysIn ring) d ks) (desk-is ring s h b q k a e))
+    ∙ ap (λ (x : Seen). x ∷ runOf (keysIn ring) (callIn ring s h b q (k .request) .after) ks) (seen-is ring s h b q k a e)
+    ∙ ap (λ (c : Call). seenOf (k .result) c ∷ runOf (keysIn ring) (c .after) ks) m
+
+-- from a fresh reader, whose state the first function has written
+pub calls-from-fresh : {ring s h b q : List ℕ} {ks : List Ask} {told : List Answer} → decoded s ≡ freshReader → Calls ring s h b q ks told → map seenIn told ≡ runOf (keysIn ring) (desk freshReader h b q) ks
+calls-from-fresh {ring} {s} {h} {b} {q} {ks} e es =
+    calls-seen es ∙ ap (λ (r : Reader). runOf (keysIn ring) (desk r h b q) ks) e

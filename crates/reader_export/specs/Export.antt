@@ -1,0 +1,85 @@
+-- What the exported functions answer and leave in the bytes that they are lent, in terms of the reader's own calls (crate reader) and of
+-- the layouts (crate layout). Assumes nothing.
+use mathlib.Core.Bool.{Bool, not, _&&_}
+use mathlib.Core.List.{List, []}
+use Prim.Native.Nat.{ℕ}
+use lib.Dec.{eqb, leb}
+use lib.ListN.{length}
+use Rattle.octets.specs.Choice.{pick}
+use Rattle.head.specs.Handing.{handedValue}
+use Rattle.layout.specs.Keys.{keysIn}
+use Rattle.layout.specs.Parts.{Placed, placing, placed}
+use Rattle.layout.specs.Results.{resultSize, wordOf, resultIn}
+use Rattle.layout.specs.State.{stateSize, stored, decoded}
+use Rattle.reader.specs.Answer.{answerOf, endOf}
+use Rattle.reader.specs.Call.{Call}
+use Rattle.reader.specs.Feed.{feedOf}
+use Rattle.reader.specs.Parts.{blockPart, freshReader}
+use Rattle.steps.specs.Desk.{Desk, desk}
+
+-- the answer where the buffer of the state or of the result is too short: nothing is changed then
+abbrev pub short : ℕ
+short = 255
+
+-- ---- a fresh reader
+
+pub record Begun : Type 0 where
+  pub word : ℕ
+  pub state : List ℕ
+
+abbrev pub begun : ℕ → List ℕ → Begun
+begun n s = record { word = n; state = s }
+
+unfoldable pub begunIn : List ℕ → Begun
+begunIn s = pick (leb stateSize (length s)) (begun 0 (stored freshReader s)) (begun short s)
+
+-- ---- the three calls
+
+-- the number that is returned, and all bytes that are lent as they are then
+pub record Answer : Type 0 where
+  pub word : ℕ
+  pub state : List ℕ
+  pub head : List ℕ
+  pub block : List ℕ
+  pub question : List ℕ
+  pub result : List ℕ
+
+abbrev pub made : ℕ → List ℕ → List ℕ → List ℕ → List ℕ → List ℕ → Answer
+made n s h b q t = record { word = n; state = s; head = h; block = b; question = q; result = t }
+
+unfoldable pub areLong : List ℕ → List ℕ → Bool
+areLong s t = leb stateSize (length s) && leb resultSize (length t)
+
+-- what a call of the reader gives, with the state after it and its result written down
+abbrev pub answered : List ℕ → List ℕ → Call → Answer
+answered s t c =
+    made (wordOf (c .word)) (stored (c .after .reader) s) (c .after .head) (c .after .block) (c .after .question)
+    (resultIn (c .word) (c .taken) (c .signature) t)
+
+unfoldable pub called : List ℕ → List ℕ → List ℕ → List ℕ → List ℕ → Call → Answer
+called s h b q t c = pick (areLong s t) (answered s t c) (made short s h b q t)
+
+-- the reader that the bytes say, with the buffers that it is lent
+abbrev pub deskIn : List ℕ → List ℕ → List ℕ → List ℕ → Desk
+deskIn s h b q = desk (decoded s) h b q
+
+abbrev pub feedIn : List ℕ → List ℕ → List ℕ → List ℕ → List ℕ → List ℕ → Call
+feedIn s h b q ring piece = feedOf (keysIn ring) (deskIn s h b q) piece
+
+abbrev pub isYes : ℕ → Bool
+isYes n = not (eqb n 0)
+
+abbrev pub answerIn : List ℕ → List ℕ → List ℕ → List ℕ → Bool → Call
+answerIn s h b q good = answerOf (deskIn s h b q) good
+
+abbrev pub endIn : List ℕ → List ℕ → List ℕ → List ℕ → Call
+endIn s h b q = endOf (deskIn s h b q)
+
+-- ---- what is handed out
+
+-- nothing where the state's buffer is too short
+unfoldable pub blockIn : List ℕ → List ℕ → List ℕ
+blockIn s b = pick (leb stateSize (length s)) (blockPart b (decoded s .released)) []
+
+unfoldable pub valueIn : List ℕ → List ℕ → List ℕ → List ℕ → Placed
+valueIn s h name v = pick (leb stateSize (length s)) (placed (handedValue h (decoded s .accepted) name) v) (placing 0 v)

@@ -1,0 +1,130 @@
+// The reader for a program in C or another language, with numbers and slices of bytes alone: its state lies in a lent buffer, is read
+// from it before each call and written back after it. Any bytes may stand in that buffer. See include/ouinet_reader.h.
+mod writing; // what a call leaves, written down
+
+use crate::writing::SHORT;
+use crate::writing::are_long;
+use crate::writing::finish;
+use layout::STATE_SIZE;
+ghost use mathlib.Core.Bool.{true};
+ghost use mathlib.Core.Path.{_≡_};
+ghost use Prim.Native.Nat.{_≤_};
+ghost use lib.ListN.{length};
+ghost use Rattle.layout.specs.Parts.{placing};
+ghost use Rattle.layout.specs.State.{stateSize, decoded};
+ghost use Rattle.reader.specs.Parts.{freshReader};
+ghost use Rattle.reader_export.specs.Export.{begun, begunIn, made, areLong, called, feedIn, answerIn, endIn, isYes, blockIn, valueIn};
+
+// A reader before its stream. 0, or 255 where the buffer is too short: it is then left as it is.
+#[no_mangle]
+pub extern "C" fn ouinet_reader_fresh(state: &mut [u8]) -> u8
+    ensures whole { λ r. ⌜ begun r (now (state .exit)) ≡ begunIn (now (state .entry)) ⌝ }
+    ensures carried { λ _. ⌜ (stateSize ≤ length (now (state .entry)) → decoded (now (state .exit)) ≡ freshReader) ⌝ }
+{
+    if state.len() < STATE_SIZE {
+        return SHORT;
+    }
+    layout::store(reader::fresh(), state);
+    0
+}
+
+// A piece of the stream. In this contract and the two after it `whole` says the word and every byte that is lent, and `carried` that
+// the state which is then read is the one that the reader's own call gives.
+#[no_mangle]
+pub extern "C" fn ouinet_reader_feed(
+    state: &mut [u8],
+    head: &mut [u8],
+    block: &mut [u8],
+    question: &mut [u8],
+    ring: &[u8],
+    piece: &[u8],
+    result: &mut [u8],
+) -> u8
+    ensures whole { λ r. ⌜ made r (now (state .exit)) (now (head .exit)) (now (block .exit)) (now (question .exit)) (now (result .exit)) ≡ called (now (state .entry)) (now (head .entry)) (now (block .entry)) (now (question .entry)) (now (result .entry)) (feedIn (now (state .entry)) (now (head .entry)) (now (block .entry)) (now (question .entry)) (now (ring .entry)) (now (piece .entry))) ⌝ }
+    ensures carried { λ _. ⌜ (areLong (now (state .entry)) (now (result .entry)) ≡ true → decoded (now (state .exit)) ≡ feedIn (now (state .entry)) (now (head .entry)) (now (block .entry)) (now (question .entry)) (now (ring .entry)) (now (piece .entry)) .after .reader) ⌝ }
+{
+    if !are_long(state, result) {
+        return SHORT;
+    }
+    let o = reader::feed(
+        layout::load(state),
+        head,
+        block,
+        question,
+        layout::keys_in(ring),
+        piece,
+    );
+    finish(o, state, result)
+}
+
+// Whether the signature that was asked about is good: 0 is no, anything else yes.
+#[no_mangle]
+pub extern "C" fn ouinet_reader_answer(
+    state: &mut [u8],
+    head: &mut [u8],
+    block: &mut [u8],
+    question: &mut [u8],
+    good: u8,
+    result: &mut [u8],
+) -> u8
+    ensures whole { λ r. ⌜ made r (now (state .exit)) (now (head .exit)) (now (block .exit)) (now (question .exit)) (now (result .exit)) ≡ called (now (state .entry)) (now (head .entry)) (now (block .entry)) (now (question .entry)) (now (result .entry)) (answerIn (now (state .entry)) (now (head .entry)) (now (block .entry)) (now (question .entry)) (isYes good)) ⌝ }
+    ensures carried { λ _. ⌜ (areLong (now (state .entry)) (now (result .entry)) ≡ true → decoded (now (state .exit)) ≡ answerIn (now (state .entry)) (now (head .entry)) (now (block .entry)) (now (question .entry)) (isYes good) .after .reader) ⌝ }
+{
+    if !are_long(state, result) {
+        return SHORT;
+    }
+    let o = reader::answer(layout::load(state), head, block, question, good != 0);
+    finish(o, state, result)
+}
+
+// The end of the stream.
+#[no_mangle]
+pub extern "C" fn ouinet_reader_end(
+    state: &mut [u8],
+    head: &mut [u8],
+    block: &mut [u8],
+    question: &mut [u8],
+    result: &mut [u8],
+) -> u8
+    ensures whole { λ r. ⌜ made r (now (state .exit)) (now (head .exit)) (now (block .exit)) (now (question .exit)) (now (result .exit)) ≡ called (now (state .entry)) (now (head .entry)) (now (block .entry)) (now (question .entry)) (now (result .entry)) (endIn (now (state .entry)) (now (head .entry)) (now (block .entry)) (now (question .entry))) ⌝ }
+    ensures carried { λ _. ⌜ (areLong (now (state .entry)) (now (result .entry)) ≡ true → decoded (now (state .exit)) ≡ endIn (now (state .entry)) (now (head .entry)) (now (block .entry)) (now (question .entry)) .after .reader) ⌝ }
+{
+    if !are_long(state, result) {
+        return SHORT;
+    }
+    let o = reader::end(layout::load(state), head, block, question);
+    finish(o, state, result)
+}
+
+// How many bytes at the front of the block buffer are handed out.
+#[no_mangle]
+pub extern "C" fn ouinet_reader_block(state: &[u8], block: &[u8]) -> usize
+    ensures { λ r. ⌜ r ≡ length (blockIn (now (state .entry)) (now (block .entry))) ⌝ }
+{
+    if state.len() < STATE_SIZE {
+        return 0;
+    }
+    let r = layout::load(state);
+    let released = r.released;
+    let part = reader::block_part(block, released);
+    part.len()
+}
+
+// The length of a signed field's value, which is copied to the front of the buffer where it fits whole.
+#[no_mangle]
+pub extern "C" fn ouinet_reader_value(
+    state: &[u8],
+    head: &[u8],
+    name: &[u8],
+    value: &mut [u8],
+) -> usize
+    ensures { λ r. ⌜ placing r (now (value .exit)) ≡ valueIn (now (state .entry)) (now (head .entry)) (now (name .entry)) (now (value .entry)) ⌝ }
+{
+    if state.len() < STATE_SIZE {
+        return 0;
+    }
+    let r = layout::load(state);
+    let accepted = r.accepted;
+    let part = reader::field_part(head, accepted, name);
+    layout::place(part, value)
+}

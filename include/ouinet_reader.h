@@ -1,0 +1,182 @@
+/*
+ * The reader of Ouinet signature streams (version 4), for C and C++.
+ *
+ * Link with libreader_export.a (`rt staticlib reader_export` writes it; x86-64 Linux). The library is proved: the contracts in
+ * crates/reader_export/src say for every input what each function returns and what it leaves in every byte that it is lent.
+ *
+ * The library holds nothing between calls. It allocates nothing, opens nothing, and never verifies a signature: it asks, and the
+ * caller answers. All that it works on is lent to each call:
+ *
+ *     state      what it keeps from call to call, OUINET_READER_STATE_SIZE bytes
+ *     head       the head of the response, as it comes
+ *     block      the block under way, and at the end the trailer
+ *     question   the message that a signature is to be verified over
+ *     ring       the keys that are trusted (feed alone)
+ *     result     what a call says, OUINET_READER_RESULT_SIZE bytes
+ *
+ * A buffer is passed as the address of its first byte and its length. An address is never NULL, not even where the length is 0, and
+ * so many bytes are there. A buffer that is not `const` overlaps no other one of the same call. That is all that is asked: any
+ * bytes may stand in any buffer, the state included, and a buffer that is too short is answered and not overrun. Several threads
+ * may call at once, each with buffers of its own. Bytes that a buffer has beyond what is named here are left as they are.
+ * A call that is refused with 1 or 2 leaves the same state; bytes that no call has written, and that say the same state in another way,
+ * may come back in the usual one.
+ *
+ * A sitting (docs/INTERFACE.md has it at length):
+ *
+ *     ouinet_reader_fresh(state, sizeof state);
+ *     for each piece of the stream, as it comes:
+ *         while bytes of it are left:
+ *             word = ouinet_reader_feed(.., piece, left, result, sizeof result);
+ *             go on behind as many bytes as were taken
+ *             if word is OUINET_READER_QUESTION:
+ *                 verify; word = ouinet_reader_answer(.., good, result, sizeof result);
+ *             if word is OUINET_READER_BLOCK:
+ *                 the first ouinet_reader_block(..) bytes of the block buffer are a verified part of the body
+ *             if word is OUINET_READER_CLOSED or OUINET_READER_REFUSED: stop
+ *     where the stream stops before that: ouinet_reader_end(..)
+ */
+#ifndef OUINET_READER_H
+#define OUINET_READER_H
+
+#include <stddef.h>
+#include <stdint.h>
+
+#ifdef __cplusplus
+extern "C" {
+#endif
+
+/* ---- sizes, in bytes */
+
+#define OUINET_READER_STATE_SIZE 336
+#define OUINET_READER_RESULT_SIZE 96
+
+/* The least lengths of the three working buffers. A shorter one is refused with OUINET_READER_NO_ROOM. */
+#define OUINET_READER_HEAD_SIZE 8192
+#define OUINET_READER_BLOCK_SIZE 65536
+#define OUINET_READER_QUESTION_SIZE 8192
+
+/* ---- the key ring
+ *
+ * Its records one after the other, in the order in which they are searched. It may be empty. A length that is no multiple of a
+ * record's, or more than OUINET_READER_RING_LIMIT records, is refused with OUINET_READER_NO_ROOM. It is read only when the head is
+ * judged. Every number here and below is 8 bytes, the lowest first.
+ */
+
+#define OUINET_READER_RING_LIMIT 16
+#define OUINET_READER_RECORD_SIZE 48
+#define OUINET_READER_RECORD_KEY 0    /* 32 bytes: the public key */
+#define OUINET_READER_RECORD_FIRST 32 /* a number: the first second at which it is trusted */
+#define OUINET_READER_RECORD_LAST 40  /* a number: the last such second */
+
+/* ---- the result of feed, answer and end */
+
+#define OUINET_READER_RESULT_WORD 0       /* a number: the word, the same as is returned */
+#define OUINET_READER_RESULT_TAKEN 8      /* a number: how many bytes of the piece were taken, 0 from answer and end */
+#define OUINET_READER_RESULT_FIRST 16     /* a number: see the words */
+#define OUINET_READER_RESULT_SECOND 24    /* a number: see the words */
+#define OUINET_READER_RESULT_SIGNATURE 32 /* 64 bytes: the signature that a question is about, else zeros */
+
+/* Words. A number that is not named is 0. */
+#define OUINET_READER_MORE 0     /* the whole piece was taken, and nothing was decided */
+#define OUINET_READER_QUESTION 1 /* first: the message is so many bytes at the front of the question buffer; second: the number of the key's record, from 0 */
+#define OUINET_READER_HEAD 2     /* the head is accepted; first: its status */
+#define OUINET_READER_BLOCK 3    /* a block is handed out; first: its place in the body; second: its length */
+#define OUINET_READER_CLOSED 4   /* the framing ended well, which does not say that the body is complete; first: the bytes of the body. Final */
+#define OUINET_READER_REFUSED 5  /* first: the number of the refusal. Final, but for the first two */
+
+/* Returned where the buffer of the state or of the result is too short. Nothing was changed, and no result written. */
+#define OUINET_READER_SHORT 255
+
+/* ---- refusals. The first two answer a call and change nothing; with the others the stream is over. */
+
+#define OUINET_READER_NOT_DUE 1       /* feed or end with a question open; answer with none open; any call after a final word */
+#define OUINET_READER_NO_ROOM 2       /* head, block or question buffer too short, or the ring's length wrong; tested before 1 */
+#define OUINET_READER_BAD_HEAD 3      /* head text wrong, longer than 8,192 bytes, over 64 fields, or a name doubled */
+#define OUINET_READER_HEAD_RULE 4     /* a rule of heads is broken, other than those of 3, 5 and 12 */
+#define OUINET_READER_BAD_VERSION 5   /* the version is there, and is not 4 */
+#define OUINET_READER_BAD_FRAME 6     /* chunk line, end of data or trailer wrong or too long */
+#define OUINET_READER_BAD_SIZE 7      /* a chunk's size is against the block rule */
+#define OUINET_READER_BAD_OUISIG 8    /* a block's signature is missing where it is due, or there where it is not */
+#define OUINET_READER_TOO_LONG 9      /* the body would pass 4,294,967,296 bytes */
+#define OUINET_READER_BAD_SIGNATURE 10 /* the answer was no */
+#define OUINET_READER_UNFINISHED 11   /* the end came before the stream's */
+#define OUINET_READER_UNTRUSTED 12    /* the key is not in the ring, or not trusted at the time, or the two key ids differ */
+
+/* ---- the state
+ *
+ * Copy it, keep it, throw it away; ouinet_reader_fresh alone needs nothing of it beforehand. Its layout, for those who look inside:
+ *
+ *       0  phase           0 head, 1 its question open, 2 first chunk line, 3 data, 4 end of data, 5 next chunk line, 6 a block's
+ *                          question open, 7 trailer, 8 closed, 9 refused; any other number is read as 9
+ *       8  first count     bytes gathered; with 1 the head's length, with 6 the block's, with 8 the body's, with 9 the refusal
+ *      16  second count    with 3, 4 and 5 the block's length, with 6 that of the next, with 7 the body's; else 0
+ *      24  accepted        length of the accepted head, else 0
+ *      32  status
+ *      40  block size
+ *      48  key             number of its record
+ *      56  id              64 bytes
+ *     120  id length
+ *     128  block number
+ *     136  hash            64 bytes: of the block before
+ *     200  line            128 bytes: of the chunk line under way
+ *     328  released        length of the block that is handed out, else 0
+ *
+ * A state that no stream has led to is as safe as any other, but what it hands out proves nothing.
+ */
+
+/* ---- calls */
+
+/* A number of 8 bytes, as it stands in a result. */
+static inline uint64_t ouinet_reader_number(const uint8_t *at) {
+    uint64_t n = 0;
+    int i;
+    for (i = 7; i >= 0; i--)
+        n = n << 8 | at[i];
+    return n;
+}
+
+/* Writes a number of 8 bytes, as it stands in a key record. */
+static inline void ouinet_reader_put_number(uint8_t *at, uint64_t n) {
+    int i;
+    for (i = 0; i < 8; i++)
+        at[i] = (uint8_t)(n >> 8 * i);
+}
+
+/* Writes the state of a reader before its stream. 0, or OUINET_READER_SHORT. */
+uint8_t ouinet_reader_fresh(uint8_t *state, size_t state_len);
+
+/*
+ * Takes a piece of the stream, of any length: its bytes up to and with the one that decides something, or all of them. Returns the
+ * word. Bytes that were not taken are fed again, after the question before them is answered.
+ */
+uint8_t ouinet_reader_feed(uint8_t *state, size_t state_len, uint8_t *head, size_t head_len, uint8_t *block, size_t block_len,
+                           uint8_t *question, size_t question_len, const uint8_t *ring, size_t ring_len, const uint8_t *piece,
+                           size_t piece_len, uint8_t *result, size_t result_len);
+
+/* Answers the open question: 0 where the signature is not good, anything else where it is. Returns the word. */
+uint8_t ouinet_reader_answer(uint8_t *state, size_t state_len, uint8_t *head, size_t head_len, uint8_t *block, size_t block_len,
+                             uint8_t *question, size_t question_len, uint8_t good, uint8_t *result, size_t result_len);
+
+/* No bytes will follow. Returns the word, which is always OUINET_READER_REFUSED, or OUINET_READER_SHORT. */
+uint8_t ouinet_reader_end(uint8_t *state, size_t state_len, uint8_t *head, size_t head_len, uint8_t *block, size_t block_len,
+                          uint8_t *question, size_t question_len, uint8_t *result, size_t result_len);
+
+/*
+ * How many bytes at the front of the block buffer are the block that is handed out: from OUINET_READER_BLOCK until the next feed or
+ * end that is not refused with 1 or 2. 0 at other times, and where a buffer is too short.
+ */
+size_t ouinet_reader_block(const uint8_t *state, size_t state_len, const uint8_t *block, size_t block_len);
+
+/*
+ * The value of a signed field of the accepted head, its name in any case. Returns the value's length, and copies it to the front
+ * of `value` where it fits whole; else nothing is copied. 0 for a field that is not signed, before the head is accepted, and where a
+ * buffer is too short.
+ */
+size_t ouinet_reader_value(const uint8_t *state, size_t state_len, const uint8_t *head, size_t head_len, const uint8_t *name,
+                           size_t name_len, uint8_t *value, size_t value_len);
+
+#ifdef __cplusplus
+}
+#endif
+
+#endif

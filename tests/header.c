@@ -1,0 +1,224 @@
+/*
+ * include/ouinet_reader.h and the library behind it, from C: the example stream of crates/ouiread/data goes through in pieces of one
+ * size, and what is said must be the lines of crates/ouiread/stdout; then the sizes that the header names, each beside one that is one
+ * byte short. tests/header.sh builds and runs it. Its last line is 'N passed, M failed'.
+ */
+#include "ouinet_reader.h"
+
+#include <stdio.h>
+#include <stdlib.h>
+#include <string.h>
+
+enum { STATE = OUINET_READER_STATE_SIZE, RESULT = OUINET_READER_RESULT_SIZE, RECORD = OUINET_READER_RECORD_SIZE };
+
+static uint8_t state[STATE], result[RESULT];
+static uint8_t head[OUINET_READER_HEAD_SIZE], block[OUINET_READER_BLOCK_SIZE], question[OUINET_READER_QUESTION_SIZE];
+static uint8_t ring[RECORD];
+static int passed, failed;
+
+static void expect(const char *what, int good) {
+    if (good) {
+        passed++;
+    } else {
+        failed++;
+        printf("FAILED: %s\n", what);
+    }
+}
+
+/* Reads a file, with a 0 behind it, and gives its length. */
+static size_t contents(const char *path, char *to, size_t room) {
+    FILE *file = fopen(path, "rb");
+    size_t length;
+    if (!file) {
+        perror(path);
+        exit(1);
+    }
+    length = fread(to, 1, room - 1, file);
+    to[length] = 0;
+    fclose(file);
+    return length;
+}
+
+static unsigned sextet(char c) {
+    const char *letters = "ABCDEFGHIJKLMNOPQRSTUVWXYZabcdefghijklmnopqrstuvwxyz0123456789+/";
+    const char *at = strchr(letters, c);
+    return c && at ? (unsigned)(at - letters) : 0;
+}
+
+/* The record of a ring line: the key's 44 characters, the first and the last second. */
+static void read_ring(const char *line) {
+    unsigned long long first, last;
+    int i;
+    for (i = 0; i < 32; i++) {
+        const char *four = line + i / 3 * 4;
+        unsigned n = sextet(four[0]) << 18 | sextet(four[1]) << 12 | sextet(four[2]) << 6 | sextet(four[3]);
+        ring[OUINET_READER_RECORD_KEY + i] = (uint8_t)(n >> (16 - 8 * (i % 3)));
+    }
+    if (sscanf(line + 44, "%llu %llu", &first, &last) != 2) {
+        fprintf(stderr, "header: the ring has no two seconds\n");
+        exit(1);
+    }
+    ouinet_reader_put_number(ring + OUINET_READER_RECORD_FIRST, first);
+    ouinet_reader_put_number(ring + OUINET_READER_RECORD_LAST, last);
+}
+
+static uint8_t feed(const uint8_t *piece, size_t length) {
+    return ouinet_reader_feed(state, STATE, head, sizeof head, block, sizeof block, question, sizeof question, ring, RECORD, piece,
+                              length, result, RESULT);
+}
+
+static uint8_t answer(uint8_t good) {
+    return ouinet_reader_answer(state, STATE, head, sizeof head, block, sizeof block, question, sizeof question, good, result, RESULT);
+}
+
+static uint8_t end(void) {
+    return ouinet_reader_end(state, STATE, head, sizeof head, block, sizeof block, question, sizeof question, result, RESULT);
+}
+
+static unsigned long long number(const uint8_t *at) { return ouinet_reader_number(at); }
+
+/* The line of a word, as the program ouiread writes it. */
+static void say(char *to, uint8_t word) {
+    unsigned long long first = number(result + OUINET_READER_RESULT_FIRST), second = number(result + OUINET_READER_RESULT_SECOND);
+    to += strlen(to);
+    if (word == OUINET_READER_QUESTION)
+        sprintf(to, "question %llu\n", first);
+    else if (word == OUINET_READER_HEAD)
+        sprintf(to, "head %llu\n", first);
+    else if (word == OUINET_READER_BLOCK)
+        sprintf(to, "block %llu %llu\n", first, second);
+    else if (word == OUINET_READER_CLOSED)
+        sprintf(to, "closed %llu\n", first);
+    else if (word == OUINET_READER_REFUSED)
+        sprintf(to, "refused %llu\n", first);
+}
+
+/* The whole stream in pieces; what was said, and the body that was handed out. */
+static void sit(const uint8_t *stream, size_t length, const char *answers, size_t piece, char *said, char *body) {
+    size_t at = 0;
+    int in_result = 1, in_range = 1, in_block = 1;
+    *said = *body = 0;
+    expect("fresh is done", ouinet_reader_fresh(state, STATE) == 0);
+    while (at < length) {
+        size_t left = length - at < piece ? length - at : piece;
+        uint8_t word = feed(stream + at, left);
+        size_t taken = (size_t)number(result + OUINET_READER_RESULT_TAKEN);
+        in_result &= number(result + OUINET_READER_RESULT_WORD) == word;
+        in_range &= taken > 0 && taken <= left;
+        at += taken;
+        say(said, word);
+        if (word == OUINET_READER_QUESTION) {
+            word = answer(*answers++ == 'y');
+            say(said, word);
+        }
+        if (word == OUINET_READER_BLOCK) {
+            size_t size = ouinet_reader_block(state, STATE, block, sizeof block);
+            in_block &= size == number(result + OUINET_READER_RESULT_SECOND);
+            strncat(body, (const char *)block, size);
+        }
+        if (word == OUINET_READER_CLOSED || word == OUINET_READER_REFUSED)
+            break;
+    }
+    expect("each word is in its result", in_result);
+    expect("each feed takes a byte at least, and no more than there are", in_range);
+    expect("each block has the length that is told", in_block);
+    expect("the whole stream was taken", at == length);
+}
+
+/* The first question alone: its signature, and the state's layout as far as the example fills it. */
+static void look_inside(const uint8_t *stream, size_t length) {
+    uint8_t zeros[64] = {0};
+    size_t head_length = 0;
+    ouinet_reader_fresh(state, STATE);
+    expect("a fresh state is all zeros", !memcmp(state, (uint8_t[STATE]){0}, STATE));
+    expect("a question comes", feed(stream, length) == OUINET_READER_QUESTION);
+    head_length = (size_t)number(result + OUINET_READER_RESULT_TAKEN);
+    expect("with a signature", memcmp(result + OUINET_READER_RESULT_SIGNATURE, zeros, 64) != 0);
+    expect("by record 0", number(result + OUINET_READER_RESULT_SECOND) == 0);
+    expect("its phase is 1, with the head's length", number(state) == 1 && number(state + 8) == head_length);
+    expect("status, block size", number(state + 32) == 200 && number(state + 40) == 5);
+    expect("the id and its length", number(state + 120) == 16 && !memcmp(state + 56, "qwertyuiop-12345", 16));
+    expect("a feed now is not due", feed(stream, length) == OUINET_READER_REFUSED);
+    expect("it is refusal 1, nothing taken", number(result + OUINET_READER_RESULT_FIRST) == OUINET_READER_NOT_DUE && number(result + OUINET_READER_RESULT_TAKEN) == 0);
+    expect("no signature with it", !memcmp(result + OUINET_READER_RESULT_SIGNATURE, zeros, 64));
+    expect("any answer but 0 is yes", answer(2) == OUINET_READER_HEAD);
+    expect("the head's length is kept", number(state + 24) == head_length && number(state) == 2);
+    expect("the first chunk's data", feed(stream + head_length, 5) == OUINET_READER_MORE && number(state) == 3 && number(state + 16) == 5);
+    expect("an end there is refusal 11", end() == OUINET_READER_REFUSED && number(result + OUINET_READER_RESULT_FIRST) == OUINET_READER_UNFINISHED);
+    expect("and final: phase 9", number(state) == 9 && number(state + 8) == OUINET_READER_UNFINISHED);
+    ouinet_reader_fresh(state, STATE);
+    expect("once more to the question", feed(stream, length) == OUINET_READER_QUESTION);
+    expect("no is refusal 10", answer(0) == OUINET_READER_REFUSED && number(result + OUINET_READER_RESULT_FIRST) == OUINET_READER_BAD_SIGNATURE);
+}
+
+static void look_up_values(void) {
+    const char *type = "content-TYPE", *unsigned_field = "X-Ouinet-Sig0";
+    uint8_t value[64];
+    size_t length;
+    memset(value, '.', sizeof value);
+    length = ouinet_reader_value(state, STATE, head, sizeof head, (const uint8_t *)type, strlen(type), value, sizeof value);
+    expect("a signed value", length > 0 && length < sizeof value && value[length] == '.' && memchr(value, '/', length));
+    memset(value, '.', sizeof value);
+    expect("is not cut", ouinet_reader_value(state, STATE, head, sizeof head, (const uint8_t *)type, strlen(type), value, length - 1) == length && value[0] == '.');
+    expect("one that is not signed", ouinet_reader_value(state, STATE, head, sizeof head, (const uint8_t *)unsigned_field, strlen(unsigned_field), value, sizeof value) == 0);
+    expect("of too short a state", ouinet_reader_value(state, STATE - 1, head, sizeof head, (const uint8_t *)type, strlen(type), value, sizeof value) == 0);
+    expect("of too short a head buffer", ouinet_reader_value(state, STATE, head, sizeof head - 1, (const uint8_t *)type, strlen(type), value, sizeof value) == 0);
+}
+
+static uint8_t feed_with(size_t s, size_t h, size_t b, size_t q, const uint8_t *keys, size_t k, size_t r) {
+    return ouinet_reader_feed(state, s, head, h, block, b, question, q, keys, k, ring, 1, result, r);
+}
+
+static int is_refused(uint8_t word, unsigned refusal) {
+    return word == OUINET_READER_REFUSED && number(result + OUINET_READER_RESULT_FIRST) == refusal;
+}
+
+/* Each size that the header names will do, and one byte less will not. */
+static void measure(void) {
+    enum { H = OUINET_READER_HEAD_SIZE, B = OUINET_READER_BLOCK_SIZE, Q = OUINET_READER_QUESTION_SIZE, MOST = OUINET_READER_RING_LIMIT * RECORD };
+    static uint8_t keys[MOST + RECORD];
+    uint8_t before[STATE];
+    expect("fresh, one byte short", ouinet_reader_fresh(state, STATE - 1) == OUINET_READER_SHORT);
+    ouinet_reader_fresh(state, STATE);
+    memcpy(before, state, STATE);
+    memset(result, 'r', RESULT);
+    expect("state, one byte short", feed_with(STATE - 1, H, B, Q, keys, 0, RESULT) == OUINET_READER_SHORT);
+    expect("result, one byte short", feed_with(STATE, H, B, Q, keys, 0, RESULT - 1) == OUINET_READER_SHORT);
+    expect("the same of answer", ouinet_reader_answer(state, STATE, head, H, block, B, question, Q, 1, result, RESULT - 1) == OUINET_READER_SHORT);
+    expect("the same of end", ouinet_reader_end(state, STATE - 1, head, H, block, B, question, Q, result, RESULT) == OUINET_READER_SHORT);
+    expect("nothing is written then", result[0] == 'r' && !memcmp(state, before, STATE));
+    expect("head, one byte short", is_refused(feed_with(STATE, H - 1, B, Q, keys, 0, RESULT), OUINET_READER_NO_ROOM));
+    expect("block, one byte short", is_refused(feed_with(STATE, H, B - 1, Q, keys, 0, RESULT), OUINET_READER_NO_ROOM));
+    expect("question, one byte short", is_refused(feed_with(STATE, H, B, Q - 1, keys, 0, RESULT), OUINET_READER_NO_ROOM));
+    expect("half a record", is_refused(feed_with(STATE, H, B, Q, keys, RECORD / 2, RESULT), OUINET_READER_NO_ROOM));
+    expect("a record too many", is_refused(feed_with(STATE, H, B, Q, keys, MOST + RECORD, RESULT), OUINET_READER_NO_ROOM));
+    expect("the state is as it was", !memcmp(state, before, STATE));
+    expect("all records", feed_with(STATE, H, B, Q, keys, MOST, RESULT) == OUINET_READER_MORE);
+    expect("a byte is gathered", number(state + 8) == 1);
+    memset(state, 0xff, STATE);
+    expect("any bytes are a state: this one is over", is_refused(feed_with(STATE, H, B, Q, keys, 0, RESULT), OUINET_READER_NOT_DUE));
+    expect("and hands out no more than there is", ouinet_reader_block(state, STATE, block, B) == B);
+    expect("nor of too short a buffer", ouinet_reader_block(state, STATE, block, B - 1) == 0 && ouinet_reader_block(state, STATE - 1, block, B) == 0);
+}
+
+int main(int count, char **arguments) {
+    char stream[4096], keys[4096], answers[4096], expected[4096], said[4096], body[4096];
+    size_t length;
+    if (count != 6) {
+        fprintf(stderr, "usage: header STREAM RING ANSWERS EXPECTED PIECE\n");
+        return 1;
+    }
+    length = contents(arguments[1], stream, sizeof stream);
+    contents(arguments[2], keys, sizeof keys);
+    contents(arguments[3], answers, sizeof answers);
+    contents(arguments[4], expected, sizeof expected);
+    read_ring(keys);
+    sit((const uint8_t *)stream, length, answers, (size_t)atol(arguments[5]), said, body);
+    expect("the nine lines", !strcmp(said, expected));
+    expect("the body", !strcmp(body, "Hello world!"));
+    look_up_values();
+    look_inside((const uint8_t *)stream, length);
+    measure();
+    printf("%d passed, %d failed\n", passed, failed);
+    return failed != 0;
+}
