@@ -1,8 +1,10 @@
 # make run    the main job on its built-in example
 # make test   proves every crate from nothing and runs all tests: the gate
 # make long   the body's limit itself, 4,294,967,296 bytes and one more, through a pipe; about a minute, and not in the gate
-# make bench  speed: SHA-512 beside an ordinary Rust one, and the judgement of a large head
-.PHONY: run test long bench program
+# make fuzz   a million random lists of calls beside the second reader, then the C interface's fuzz target for two minutes
+# make bench  speed: SHA-512 and the whole reader beside ordinary Rust ones, and the judgement of a large head
+# make fetch  the programs oui-fetch, oui-sign and oui-relay, in rust/target/release
+.PHONY: run test long fuzz bench program fetch
 
 run: program
 	@cd crates/ouiread/data && ../../../target/bin/ouiread stream ring answers
@@ -17,6 +19,17 @@ bench:
 	@scripts/setup
 	@bench/hash.sh
 	@bench/head.sh
+	@bench/reader.sh
+
+fuzz:
+	@scripts/setup fuzz
+	@scripts/fuzz
+
+# The programs over the proved library, which is proved and built first
+fetch:
+	@scripts/setup
+	@scripts/library
+	@cargo build --release --offline --quiet --manifest-path rust/Cargo.toml -p oui-fetch -p oui-sign -p oui-relay
 
 # The program alone, proved and linked; what the prover says is shown where it fails
 program:

@@ -3,7 +3,7 @@
 //! libsodium and builds all texts itself, so that its expectations do not come from a reader.
 //!
 //! * `rng`: the seeded numbers;
-//! * `sodium`: Ed25519 and SHA-512;
+//! * `sodium`: Ed25519 and SHA-512, a package of its own;
 //! * `base64`: encoding;
 //! * `head`: a head as an editable list of lines;
 //! * `plan`: what an honest stream is made from, and how it is built;
@@ -16,7 +16,9 @@
 //! * `inputs`: malformed files;
 //! * `sequence`: the cases of a seed in order;
 //! * `example`: the example of document 000;
-//! * `long`: streams that are written on the fly.
+//! * `options`: a program's words;
+//! * `writer`: a stream written block by block as its body comes;
+//! * `long`: streams of any length from the writer.
 
 pub mod answers;
 pub mod base64;
@@ -28,9 +30,12 @@ pub mod example;
 pub mod head;
 pub mod inputs;
 pub mod long;
+pub mod options;
 pub mod plan;
 pub mod random;
 pub mod rng;
 pub mod rules;
 pub mod sequence;
-pub mod sodium;
+pub mod writer;
+
+pub use ::sodium;

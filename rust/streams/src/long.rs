@@ -1,10 +1,9 @@
 //! Streams of any body length, written on the fly in bounded memory: block size 65,536 unless told
 //! otherwise, the fixed test key, real signatures.
 
-use crate::base64;
 use crate::example;
-use crate::plan::{block_message, Kind, Plan};
-use crate::sodium;
+use crate::plan::Plan;
+use crate::writer::Writer;
 use std::io::{self, Write};
 
 /// The plan of a long stream, without its blocks.
@@ -37,45 +36,26 @@ pub fn write_answers(length: u64, block_size: usize, out: &mut impl Write) -> io
 
 /// Writes the stream. Each block is a counter's bytes, so that no two are alike.
 pub fn write_stream(length: u64, block_size: usize, out: &mut impl Write) -> io::Result<()> {
-    let plan = plan(block_size);
-    let built = plan.build();
-    for part in built.parts.iter().filter(|part| part.kind == Kind::Head) {
-        out.write_all(&part.bytes)?;
-    }
-    let mut hash: Vec<u8> = Vec::new();
-    let mut extension: Vec<u8> = Vec::new();
+    let mut writer = Writer::start(plan(block_size), out)?;
+    let mut block: Vec<u8> = Vec::with_capacity(block_size);
     let mut offset: u64 = 0;
-    let mut text: Vec<u8> = Vec::with_capacity(64 + block_size);
     while offset < length {
         let size = (length - offset).min(block_size as u64) as usize;
-        text.clear();
-        text.extend(&hash);
-        fill(&mut text, offset, size);
-        write!(out, "{size:x}")?;
-        out.write_all(&extension)?;
-        out.write_all(b"\r\n")?;
-        out.write_all(&text[hash.len()..])?;
-        out.write_all(b"\r\n")?;
-        hash = sodium::sha512(&text).to_vec();
-        let signature = plan.signer.sign(&block_message(&plan.id, offset, &hash));
-        extension = [b";ouisig=", &base64::encode(&signature)[..]].concat();
+        block.clear();
+        fill(&mut block, offset, size);
+        writer.block(&block)?;
         offset += size as u64;
     }
-    out.write_all(b"0")?;
-    out.write_all(&extension)?;
-    out.write_all(b"\r\n")?;
-    out.write_all(&plan.trailer)?;
-    out.flush()
+    writer.finish()
 }
 
 /// Adds so many bytes: eight at a time, the count of bytes before them.
-fn fill(text: &mut Vec<u8>, offset: u64, size: usize) {
-    let end = text.len() + size;
+fn fill(block: &mut Vec<u8>, offset: u64, size: usize) {
     let mut count = offset;
-    while text.len() < end {
+    while block.len() < size {
         let eight = count.wrapping_mul(0x9e37_79b9_7f4a_7c15).to_le_bytes();
-        let rest = (end - text.len()).min(8);
-        text.extend(&eight[..rest]);
+        let rest = (size - block.len()).min(8);
+        block.extend(&eight[..rest]);
         count += 8;
     }
 }

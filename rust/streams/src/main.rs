@@ -5,6 +5,7 @@ use std::io::{self, BufWriter, Write};
 use std::path::Path;
 use std::process::ExitCode;
 use streams::case::{Answering, Case};
+use streams::options::{parse_number, Options};
 use streams::rng::Rng;
 use streams::sequence::{self, Group, Sequence};
 use streams::{example, long};
@@ -33,7 +34,7 @@ fn main() -> ExitCode {
 
 fn run(words: &[String]) -> Result<(), String> {
     let (command, rest) = words.split_first().ok_or(USAGE)?;
-    let mut options = Options::parse(rest)?;
+    let mut options = Options::parse(rest, USAGE)?;
     match command.as_str() {
         "example" => {
             let folder = options.plain("DIR")?;
@@ -66,65 +67,6 @@ fn run(words: &[String]) -> Result<(), String> {
         }
         other => Err(format!("no command {other:?}\n{USAGE}")),
     }
-}
-
-/// The words after the command: named ones with their values, and plain ones in order.
-struct Options {
-    named: Vec<(String, String)>,
-    plain: Vec<String>,
-}
-
-impl Options {
-    fn parse(words: &[String]) -> Result<Self, String> {
-        let mut options = Options { named: Vec::new(), plain: Vec::new() };
-        let mut words = words.iter();
-        while let Some(word) = words.next() {
-            if word.starts_with("--") {
-                let value = words.next().ok_or_else(|| format!("{word} needs a value"))?;
-                options.named.push((word.clone(), value.clone()));
-            } else {
-                options.plain.push(word.clone());
-            }
-        }
-        Ok(options)
-    }
-
-    fn named(&mut self, name: &str) -> Option<String> {
-        let place = self.named.iter().position(|(word, _)| word == name)?;
-        Some(self.named.remove(place).1)
-    }
-
-    fn number(&mut self, name: &str) -> Result<Option<u64>, String> {
-        self.named(name).map(|value| parse_number(name, &value)).transpose()
-    }
-
-    fn block_size(&mut self) -> Result<usize, String> {
-        match self.number("--block-size")? {
-            None => Ok(65_536),
-            Some(size @ 1..=65_536) => Ok(size as usize),
-            Some(size) => Err(format!("a block size is from 1 to 65536, not {size}")),
-        }
-    }
-
-    fn plain(&mut self, what: &str) -> Result<String, String> {
-        if self.plain.is_empty() {
-            return Err(format!("{what} is missing\n{USAGE}"));
-        }
-        Ok(self.plain.remove(0))
-    }
-
-    /// Nothing may be left over.
-    fn done(&self) -> Result<(), String> {
-        match (self.named.first(), self.plain.first()) {
-            (Some((name, _)), _) => Err(format!("no option {name} here\n{USAGE}")),
-            (_, Some(word)) => Err(format!("{word:?} is one word too many\n{USAGE}")),
-            _ => Ok(()),
-        }
-    }
-}
-
-fn parse_number(name: &str, text: &str) -> Result<u64, String> {
-    text.parse().map_err(|_| format!("{name} is a number, not {text:?}"))
 }
 
 fn failed(path: &Path, error: io::Error) -> String {

@@ -1,7 +1,7 @@
-//! Ed25519 and SHA-512 through libsodium (Debian package libsodium-dev). All unsafe code of the
-//! generator is here.
+//! Ed25519, SHA-512 and unpredictable bytes through libsodium (Debian package libsodium-dev), for the generator, the signer
+//! and the program that reads streams.
 
-use std::ffi::{c_int, c_uchar, c_ulonglong};
+use std::ffi::{c_int, c_uchar, c_ulonglong, c_void};
 use std::sync::Once;
 
 #[link(name = "sodium")]
@@ -21,6 +21,7 @@ extern "C" {
         message_length: c_ulonglong,
         public: *const c_uchar,
     ) -> c_int;
+    fn randombytes_buf(out: *mut c_void, length: usize);
     fn crypto_hash_sha512(out: *mut c_uchar, message: *const c_uchar, message_length: c_ulonglong) -> c_int;
 }
 
@@ -85,6 +86,15 @@ pub fn sha512(message: &[u8]) -> [u8; 64] {
     // SAFETY: the place for the hash has 64 bytes, the message as many as it says.
     let code = unsafe { crypto_hash_sha512(out.as_mut_ptr(), message.as_ptr(), message.len() as c_ulonglong) };
     assert_eq!(code, 0, "libsodium does not hash");
+    out
+}
+
+/// Bytes that nobody can foretell.
+pub fn random<const N: usize>() -> [u8; N] {
+    start();
+    let mut out = [0; N];
+    // SAFETY: the place has as many bytes as the call is told.
+    unsafe { randombytes_buf(out.as_mut_ptr().cast(), N) };
     out
 }
 

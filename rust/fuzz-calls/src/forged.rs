@@ -1,0 +1,185 @@
+//! States that no call wrote. For them the library promises safety, and refusals 1 and 2: it stays within its buffers, takes
+//! no more than the piece has, says one of the words, and says the same each time.
+
+use crate::buffers::{too_short, Buffers, Lengths};
+use crate::due::same;
+use crate::material::{ring_bytes, Material};
+use crate::tally::Tally;
+use ouinet_reader::raw::{self, Outcome};
+use streams::rng::Rng;
+
+/// Numbers at or beside a limit somewhere.
+const NUMBERS: [u64; 18] = [
+    0,
+    1,
+    2,
+    3,
+    9,
+    10,
+    127,
+    128,
+    8191,
+    8192,
+    8193,
+    65_535,
+    65_536,
+    65_537,
+    4_294_967_295,
+    4_294_967_296,
+    u64::MAX - 1,
+    u64::MAX,
+];
+/// Where the state has its numbers: phase, two counts, accepted, status, block size, key, the id's length, block number,
+/// released.
+const PLACES: [usize; 10] = [0, 8, 16, 24, 32, 40, 48, 120, 128, 328];
+/// A phase beyond the last one.
+const NO_PHASE: u64 = 10;
+
+/// Makes some calls on forged states, from the buffers as they are.
+pub fn check(buffers: &Buffers, material: &Material, rng: &mut Rng, tally: &mut Tally) -> Result<(), String> {
+    let mut buffers = buffers.clone();
+    forge(&mut buffers, rng);
+    for _ in 0..rng.between(1, 4) {
+        tally.forged += 1;
+        step(&mut buffers, material, rng)?;
+    }
+    Ok(())
+}
+
+/// Changes the state: all of it, some bytes, or some numbers.
+fn forge(buffers: &mut Buffers, rng: &mut Rng) {
+    let length = buffers.state.len();
+    let state = buffers.state.lend(length);
+    match rng.below(4) {
+        0 => {
+            let bytes = rng.bytes(raw::STATE_SIZE);
+            state[..raw::STATE_SIZE].copy_from_slice(&bytes);
+            state[..8].copy_from_slice(&(rng.below(12) as u64).to_le_bytes());
+        }
+        1 => {
+            for _ in 0..rng.between(1, 6) {
+                let place = rng.below(raw::STATE_SIZE);
+                state[place] = rng.byte();
+            }
+        }
+        _ => {
+            for _ in 0..rng.between(1, 4) {
+                let place = *rng.pick(&PLACES);
+                let number = if place == 0 { rng.below(12) as u64 } else { *rng.pick(&NUMBERS) };
+                state[place..place + 8].copy_from_slice(&number.to_le_bytes());
+            }
+        }
+    }
+    buffers.state.accept();
+}
+
+enum Call {
+    Feed(Vec<u8>),
+    Answer(u8),
+    End,
+}
+
+fn draw(material: &Material, rng: &mut Rng) -> Call {
+    match rng.below(4) {
+        0 => Call::Answer(rng.byte() & 1),
+        1 if rng.one_in(3) => Call::End,
+        _ => {
+            let start = rng.below(material.stream.len() + 1);
+            let rest = &material.stream[start..];
+            Call::Feed(rest[..rng.below(rest.len() + 1)].to_vec())
+        }
+    }
+}
+
+fn step(buffers: &mut Buffers, material: &Material, rng: &mut Rng) -> Result<(), String> {
+    let call = draw(material, rng);
+    let mut lengths = buffers.whole();
+    let short = rng.one_in(8);
+    if short {
+        lengths.holds.block = too_short(raw::BLOCK_SIZE, rng);
+    }
+    let due = match first_number(buffers.state.get()) {
+        _ if short => Some(2),
+        NO_PHASE.. => Some(1),
+        _ => None,
+    };
+    let before = buffers.clone();
+    let mut again = buffers.clone();
+    let ring = ring_bytes(&material.ring);
+    let word = make(buffers, &call, &ring, &lengths);
+    check_word(buffers, &before, &call, word, due)?;
+    settle(buffers)?;
+    check_parts(buffers)?;
+    make(&mut again, &call, &ring, &lengths);
+    settle(&mut again)?;
+    same_buffers(buffers, &again)
+}
+
+/// One of the words, no more taken than there was, and the refusal that is due for any state, which leaves the holds alone.
+fn check_word(now: &Buffers, before: &Buffers, call: &Call, word: u8, due: Option<u64>) -> Result<(), String> {
+    let outcome = Outcome::of(&now.result_bytes());
+    same("the word", &outcome.word, &u64::from(word))?;
+    let piece = if let Call::Feed(piece) = call { piece.len() } else { 0 };
+    if word > raw::REFUSED || outcome.taken > piece as u64 {
+        return Err(format!("word {word}, {} taken of {piece} bytes", outcome.taken));
+    }
+    let refused = (word == raw::REFUSED).then_some(outcome.first);
+    if due.is_some() {
+        same("the refusal", &refused, &due)?;
+    }
+    if matches!(refused, Some(1 | 2)) {
+        same("the head after a refusal 1 or 2", &now.head.get(), &before.head.get())?;
+        same("the block after a refusal 1 or 2", &now.block.get(), &before.block.get())?;
+        same("the question after a refusal 1 or 2", &now.question.get(), &before.question.get())?;
+    }
+    Ok(())
+}
+
+fn first_number(state: &[u8]) -> u64 {
+    state[..8].iter().rev().fold(0, |number, &byte| number << 8 | u64::from(byte))
+}
+
+fn make(buffers: &mut Buffers, call: &Call, ring: &[u8], lengths: &Lengths) -> u8 {
+    let mut lent = buffers.lend(lengths);
+    match call {
+        Call::Feed(piece) => raw::feed(&mut lent, ring, piece),
+        Call::Answer(good) => raw::answer(&mut lent, *good),
+        Call::End => raw::end(&mut lent),
+    }
+}
+
+/// Takes the buffers as they are now, with their marks unchanged.
+fn settle(buffers: &mut Buffers) -> Result<(), String> {
+    buffers.state.accept_front(raw::STATE_SIZE);
+    buffers.head.accept();
+    buffers.block.accept();
+    buffers.question.accept();
+    buffers.result.accept_front(raw::RESULT_SIZE);
+    buffers.check()
+}
+
+/// The handed-out parts lie within their buffers.
+fn check_parts(buffers: &Buffers) -> Result<(), String> {
+    let state = buffers.state.get();
+    let block = raw::block(state, buffers.block.get());
+    let mut value = [0; raw::HEAD_SIZE];
+    let length = raw::value(state, buffers.head.get(), b"X-Ouinet-URI", &mut value);
+    if block > buffers.block.len() || length > buffers.head.len() {
+        return Err(format!("a block of {block} bytes, a value of {length}"));
+    }
+    Ok(())
+}
+
+fn same_buffers(one: &Buffers, other: &Buffers) -> Result<(), String> {
+    let parts = [
+        ("state", &one.state, &other.state),
+        ("head", &one.head, &other.head),
+        ("block", &one.block, &other.block),
+        ("question", &one.question, &other.question),
+        ("result", &one.result, &other.result),
+    ];
+    match parts.iter().find(|(_, one, other)| one.get() != other.get()) {
+        Some((name, ..)) => Err(format!("the same call twice leaves another {name}")),
+        None => Ok(()),
+    }
+}

@@ -1,0 +1,91 @@
+//! The streams that are fed, honest and broken, and the rings that fit them.
+
+use ouinet_reader::raw::RECORD_SIZE;
+use second::files::parse_ring;
+use second::ring::Record;
+use streams::case::Case;
+use streams::damage;
+use streams::plan::{ring_text, Built};
+use streams::random;
+use streams::rng::Rng;
+use streams::rules::{self, Rule};
+use streams::sequence::{Group, Sequence};
+
+/// A stream and its ring.
+#[derive(Clone)]
+pub struct Material {
+    pub label: String,
+    pub stream: Vec<u8>,
+    pub ring: Vec<Record>,
+}
+
+/// The records as the library reads them.
+pub fn ring_bytes(ring: &[Record]) -> Vec<u8> {
+    let mut out = Vec::with_capacity(ring.len() * RECORD_SIZE);
+    for record in ring {
+        out.extend(record.key);
+        out.extend(record.first.to_le_bytes());
+        out.extend(record.last.to_le_bytes());
+    }
+    out
+}
+
+impl Material {
+    fn of_case(case: Case) -> Self {
+        Material { label: case.label, stream: case.stream, ring: parse_ring(&case.ring).unwrap_or_default() }
+    }
+
+    fn of_built(label: &str, built: &Built) -> Self {
+        let ring = parse_ring(&ring_text(&built.ring)).unwrap_or_default();
+        Material { label: label.to_string(), stream: built.bytes(), ring }
+    }
+}
+
+/// What materials are drawn from.
+pub struct Pool {
+    /// The example, each rule broken on it, and both sides of each limit.
+    fixed: Vec<Material>,
+    small: Vec<Built>,
+    hits: Vec<damage::Hit>,
+    rules: Vec<Rule>,
+}
+
+impl Pool {
+    pub fn new() -> Self {
+        let groups = [Group::Example, Group::Rules, Group::Bounds];
+        let small = damage::streams();
+        Pool {
+            fixed: Sequence::new(1, &groups).map(Material::of_case).collect(),
+            hits: damage::every_place(&small),
+            small,
+            rules: rules::all(),
+        }
+    }
+
+    pub fn draw(&self, rng: &mut Rng) -> Material {
+        match rng.below(10) {
+            0 | 1 => rng.pick(&self.fixed).clone(),
+            2 | 3 => Material::of_case(damage::case(*rng.pick(&self.hits), &self.small, rng)),
+            4 => Material::of_built("a small stream", rng.pick(&self.small)),
+            5 => self.broken(rng),
+            6 => Material::of_case(damage::several(&random::full_plan(rng).build(), rng)),
+            _ => Material::of_built("a random stream", &random::plan(rng).build()),
+        }
+    }
+
+    /// A rule broken on a random stream.
+    fn broken(&self, rng: &mut Rng) -> Material {
+        let rule = rng.pick(&self.rules);
+        let spot = *rng.pick(&rule.spots);
+        let plan = random::full_plan(rng);
+        let broken = rule.break_at(spot, &plan, rng);
+        let ring = parse_ring(&ring_text(&broken.ring)).unwrap_or_default();
+        Material { label: format!("{} at {spot:?}", rule.label), stream: broken.stream, ring }
+    }
+}
+
+impl Default for Pool {
+    fn default() -> Self {
+        Pool::new()
+    }
+}

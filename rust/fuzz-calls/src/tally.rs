@@ -1,0 +1,48 @@
+//! What the lists have met: how often each word came, and each refusal.
+
+use std::fmt;
+
+#[derive(Default, Clone)]
+pub struct Tally {
+    pub lists: u64,
+    pub calls: u64,
+    /// more, question, head, block, closed.
+    pub words: [u64; 5],
+    /// By the refusal's number.
+    pub refusals: [u64; 13],
+    /// Calls whose state or result was too short.
+    pub too_short: u64,
+    /// Calls on states that no call wrote.
+    pub forged: u64,
+    /// Values that were handed out and not empty.
+    pub values: u64,
+}
+
+impl Tally {
+    pub fn add(&mut self, other: &Tally) {
+        self.lists += other.lists;
+        self.calls += other.calls;
+        self.too_short += other.too_short;
+        self.forged += other.forged;
+        self.values += other.values;
+        for (mine, theirs) in self.words.iter_mut().zip(other.words) {
+            *mine += theirs;
+        }
+        for (mine, theirs) in self.refusals.iter_mut().zip(other.refusals) {
+            *mine += theirs;
+        }
+    }
+}
+
+impl fmt::Display for Tally {
+    fn fmt(&self, out: &mut fmt::Formatter) -> fmt::Result {
+        let [more, question, head, block, closed] = self.words;
+        writeln!(out, "{} lists, {} calls, {} more on forged states", self.lists, self.calls, self.forged)?;
+        writeln!(out, "more {more}, question {question}, head {head}, block {block}, closed {closed}")?;
+        write!(out, "refused")?;
+        for (number, count) in self.refusals.iter().enumerate().skip(1) {
+            write!(out, " {number}: {count}{}", if number < 12 { "," } else { "" })?;
+        }
+        write!(out, "\nbuffers too short for any answer {}, values handed out {}", self.too_short, self.values)
+    }
+}

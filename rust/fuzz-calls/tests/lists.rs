@@ -1,0 +1,33 @@
+//! A few thousand lists of calls of a fixed seed, so that the gate gives the same answer each time.
+
+use fuzz_calls::material::Pool;
+use fuzz_calls::tally::Tally;
+
+const SEED: u64 = 1;
+
+fn run(from: u64, count: u64) -> Tally {
+    println!("seed {SEED}, lists {from} to {}", from + count - 1);
+    let pool = Pool::new();
+    let mut tally = Tally::default();
+    for number in from..from + count {
+        if let Err(what) = fuzz_calls::check(&pool, SEED, number, &mut tally) {
+            panic!("{what}");
+        }
+    }
+    println!("{tally}");
+    tally
+}
+
+#[test]
+fn some_lists() {
+    let tally = run(0, 2000);
+    assert!(tally.words.iter().all(|&count| count > 0), "a word never came");
+}
+
+#[test]
+fn some_more_lists() {
+    let tally = run(2000, 2000);
+    for number in [1, 2, 3, 4, 5, 6, 7, 8, 10, 11, 12] {
+        assert!(tally.refusals[number] > 0, "refusal {number} never came");
+    }
+}

@@ -1,0 +1,91 @@
+//! The program's files. Every complaint names the file.
+
+use crate::Complaint;
+use ouinet_reader::Ring;
+use std::fs::File;
+use std::io::{self, Read, Write};
+use std::os::fd::{AsFd, BorrowedFd};
+use std::os::unix::fs::MetadataExt;
+use std::path::Path;
+
+/// No good ring comes near to so many bytes.
+const MOST_RING: u64 = 65_536;
+
+fn failed(path: &Path, error: io::Error) -> Complaint {
+    format!("{}: {error}", path.display())
+}
+
+/// The key ring. A fault in it is told with its line.
+pub fn load_ring(path: &Path) -> Result<Ring, Complaint> {
+    let mut text = Vec::new();
+    let file = File::open(path).map_err(|error| failed(path, error))?;
+    file.take(MOST_RING).read_to_end(&mut text).map_err(|error| failed(path, error))?;
+    Ring::parse(&text).map_err(|fault| format!("{}: {fault}", path.display()))
+}
+
+/// Where the stream comes from.
+pub struct Source(File);
+
+impl Source {
+    pub fn file(&self) -> &File {
+        &self.0
+    }
+}
+
+impl Read for Source {
+    fn read(&mut self, out: &mut [u8]) -> io::Result<usize> {
+        self.0.read(out)
+    }
+}
+
+/// What standard input and output are called in a complaint, and any other file by its path.
+pub fn stream_name(path: Option<&Path>) -> String {
+    path.map_or("standard input".to_string(), |path| path.display().to_string())
+}
+
+/// A second handle of a standard stream, without its buffer: blocks are large and go out at once.
+fn unbuffered(stream: BorrowedFd) -> io::Result<File> {
+    Ok(stream.try_clone_to_owned()?.into())
+}
+
+pub fn open_stream(path: Option<&Path>) -> Result<Source, Complaint> {
+    let opened = match path {
+        Some(path) => File::open(path),
+        None => unbuffered(io::stdin().as_fd()),
+    };
+    opened.map(Source).map_err(|error| format!("{}: {error}", stream_name(path)))
+}
+
+/// Where the body goes.
+pub struct Target {
+    file: File,
+    name: String,
+}
+
+impl Target {
+    /// Makes the file anew, unless it is the one that the stream comes from.
+    pub fn open(path: Option<&Path>, source: &File) -> Result<Self, Complaint> {
+        let Some(path) = path else {
+            let name = "standard output".to_string();
+            let file = unbuffered(io::stdout().as_fd()).map_err(|error| format!("{name}: {error}"))?;
+            return Ok(Target { file, name });
+        };
+        if is_same(path, source) {
+            return Err(format!("{}: the body would be written over the stream", path.display()));
+        }
+        let file = File::create(path).map_err(|error| failed(path, error))?;
+        Ok(Target { file, name: path.display().to_string() })
+    }
+
+    pub fn write(&mut self, block: &[u8]) -> Result<(), Complaint> {
+        self.file.write_all(block).map_err(|error| format!("{}: {error}", self.name))
+    }
+}
+
+/// Whether the path leads to the ordinary file that is open.
+fn is_same(path: &Path, open: &File) -> bool {
+    match (path.metadata(), open.metadata()) {
+        (Ok(a), Ok(b)) => a.is_file() && (a.dev(), a.ino()) == (b.dev(), b.ino()),
+        _ => false,
+    }
+}

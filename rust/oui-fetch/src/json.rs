@@ -1,0 +1,54 @@
+//! Events as lines of JSON.
+
+use ouinet_reader::{Event, Reader};
+use std::fmt::Write;
+
+/// The line of an event, without its line feed.
+pub fn line(reader: &Reader, event: &Event) -> String {
+    match event {
+        Event::Question(question) => {
+            format!(r#"{{"event":"question","length":{},"record":{}}}"#, question.message.len(), question.record)
+        }
+        Event::HeadAccepted { status } => {
+            let uri = quoted(&reader.value("X-Ouinet-URI"));
+            format!(r#"{{"event":"head","status":{status},"uri":{uri}}}"#)
+        }
+        Event::Block { offset, bytes } => {
+            format!(r#"{{"event":"block","offset":{offset},"length":{}}}"#, bytes.len())
+        }
+        Event::Closed { total } => format!(r#"{{"event":"closed","total":{total}}}"#),
+        Event::Refused(refusal) => {
+            let meaning = quoted(refusal.meaning().as_bytes());
+            format!(r#"{{"event":"refused","number":{},"meaning":{meaning}}}"#, refusal.number())
+        }
+    }
+}
+
+/// Bytes as a JSON string, a character for each byte: a field's value need not be UTF-8.
+fn quoted(bytes: &[u8]) -> String {
+    let mut out = String::from("\"");
+    for &byte in bytes {
+        match byte {
+            b'"' | b'\\' => {
+                out.push('\\');
+                out.push(char::from(byte));
+            }
+            32..=126 => out.push(char::from(byte)),
+            // Writing to a string does not fail
+            _ => drop(write!(out, "\\u{byte:04x}")),
+        }
+    }
+    out.push('"');
+    out
+}
+
+#[cfg(test)]
+mod tests {
+    use super::*;
+
+    #[test]
+    fn strings() {
+        assert_eq!(quoted(b"a b"), "\"a b\"");
+        assert_eq!(quoted(b"\"\\\t\xe9\x7f"), "\"\\\"\\\\\\u0009\\u00e9\\u007f\"");
+    }
+}

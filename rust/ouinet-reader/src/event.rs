@@ -1,0 +1,49 @@
+//! What the reader tells its caller.
+
+use crate::Refusal;
+
+/// A question to the caller's Ed25519 routine.
+#[derive(Debug, Clone, Copy, PartialEq, Eq)]
+pub struct Question<'r> {
+    /// The public key, from the ring's record.
+    pub key: &'r [u8; 32],
+    /// The number of that record in the ring, counted from 0.
+    pub record: usize,
+    /// The bytes that were signed.
+    pub message: &'r [u8],
+    /// The signature that the stream carries.
+    pub signature: &'r [u8; 64],
+}
+
+/// What happened in the stream. The bytes in it are parts of the reader's buffers.
+#[derive(Debug, Clone, Copy, PartialEq, Eq)]
+pub enum Event<'r> {
+    /// The reader waits for an [`answer`](crate::Reader::answer).
+    Question(Question<'r>),
+    /// The head's signature was good. From now on [`Reader::value`](crate::Reader::value) gives the signed fields.
+    HeadAccepted {
+        /// The response's status: 200, 301, 302 or 307.
+        status: u16,
+    },
+    /// A block's signature was good.
+    Block {
+        /// Where in the body the block starts.
+        offset: u64,
+        /// The block.
+        bytes: &'r [u8],
+    },
+    /// The stream's framing ended well. This is the last event.
+    Closed {
+        /// The length of the body.
+        total: u64,
+    },
+    /// The stream is not to be trusted further. This is the last event.
+    Refused(Refusal),
+}
+
+impl Event<'_> {
+    /// Whether this is a stream's last event.
+    pub fn is_final(&self) -> bool {
+        matches!(self, Event::Closed { .. } | Event::Refused(_))
+    }
+}

@@ -1,0 +1,95 @@
+//! Reads signed streams: HTTP responses in Ouinet's version 4 signature format, in which the head and every block of the
+//! body carry an Ed25519 signature. The reading itself is done by a proved library with a C interface, which this crate
+//! links; the crate adds types, buffers of the right lengths and a way to run a whole stream. It depends on nothing else.
+//!
+//! The reader does no Ed25519 of its own. It asks: *does this signature over this message belong to this key?* The caller
+//! answers with a routine of its choice, and only after a yes are a head's values or a block's bytes handed out.
+//!
+//! # A whole stream
+//!
+//! [`run`] reads from anything that implements [`std::io::Read`]:
+//!
+//! ```no_run
+//! use ouinet_reader::{run, Ending, Event, Question, Ring};
+//! use std::fs::File;
+//!
+//! # fn ed25519_verify(key: &[u8; 32], message: &[u8], signature: &[u8; 64]) -> bool { false }
+//! # fn main() -> Result<(), Box<dyn std::error::Error>> {
+//! let ring = Ring::parse(&std::fs::read("ring")?)?;
+//! let mut body = Vec::new();
+//! let ending = run(
+//!     File::open("stream")?,
+//!     ring,
+//!     |question: &Question| ed25519_verify(question.key, question.message, question.signature),
+//!     |_, event| {
+//!         if let Event::Block { bytes, .. } = event {
+//!             body.extend_from_slice(bytes);
+//!         }
+//!         Ok::<(), std::io::Error>(())
+//!     },
+//! )?;
+//! match ending {
+//!     Ending::Closed { total } => println!("{total} bytes, all verified"),
+//!     Ending::Refused(refusal) => println!("refused with {}: {refusal}", refusal.number()),
+//! }
+//! # Ok(())
+//! # }
+//! ```
+//!
+//! # Piece by piece
+//!
+//! Where bytes come from an event loop rather than a blocking source, call [`Reader::feed`], [`Reader::answer`] and
+//! [`Reader::end`]. A feed takes bytes up to the first event, or all of them; what it did not take is fed again:
+//!
+//! ```
+//! use ouinet_reader::{Event, NotDue, Reader};
+//!
+//! /// Feeds a piece that has just come. True once the last event is there.
+//! fn piece_came(
+//!     reader: &mut Reader,
+//!     mut piece: &[u8],
+//!     body: &mut Vec<u8>,
+//!     verify: fn(&[u8; 32], &[u8], &[u8; 64]) -> bool,
+//! ) -> Result<bool, NotDue> {
+//!     loop {
+//!         let fed = reader.feed(piece)?;
+//!         piece = &piece[fed.taken..];
+//!         let good = match fed.event {
+//!             None => return Ok(false),
+//!             Some(Event::Question(question)) => verify(question.key, question.message, question.signature),
+//!             Some(event) => return Ok(event.is_final()),
+//!         };
+//!         match reader.answer(good)? {
+//!             Event::Block { bytes, .. } => body.extend_from_slice(bytes),
+//!             event if event.is_final() => return Ok(true),
+//!             _ => (),
+//!         }
+//!     }
+//! }
+//! # let mut reader = Reader::new(ouinet_reader::Ring::empty());
+//! # let mut body = Vec::new();
+//! # assert_eq!(piece_came(&mut reader, b"HTTP/1.1 200 OK\r\n", &mut body, |_, _, _| true), Ok(false));
+//! # assert_eq!(piece_came(&mut reader, b"\r\n", &mut body, |_, _, _| true), Ok(true));
+//! ```
+//!
+//! # What *closed* means
+//!
+//! That the framing ended well. It does not say that the body is complete: version 4 blocks do not mark the last one, so a
+//! stream that was cut after a block and closed by someone on its way reads like a shorter one.
+
+#![deny(missing_docs)]
+#![deny(unsafe_code)]
+
+mod base64;
+mod event;
+pub mod raw;
+mod reader;
+mod refusal;
+mod ring;
+mod run;
+
+pub use event::{Event, Question};
+pub use reader::{Fed, NotDue, Reader};
+pub use refusal::Refusal;
+pub use ring::{Record, Ring, RingFault, MOST_RECORDS};
+pub use run::{run, Ending, RunError};

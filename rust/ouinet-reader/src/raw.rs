@@ -1,0 +1,231 @@
+//! The C interface as it is, over slices: numbers and lent bytes, and no state outside of them. All unsafe code of the crate
+//! is here. Most callers want [`Reader`](crate::Reader); this module is for callers with buffers of their own, and for tests.
+//!
+//! Every function is safe for any bytes and any lengths. A call whose state or result is too short changes nothing and
+//! returns [`SHORT`]. Numbers in the buffers have eight bytes, lowest byte first.
+
+#![allow(unsafe_code)]
+
+/// The least length of a state.
+pub const STATE_SIZE: usize = 336;
+/// The least length of a head buffer.
+pub const HEAD_SIZE: usize = 8192;
+/// The least length of a block buffer.
+pub const BLOCK_SIZE: usize = 65_536;
+/// The least length of a question buffer.
+pub const QUESTION_SIZE: usize = 8192;
+/// The length of a record in a ring: key, first second, last second.
+pub const RECORD_SIZE: usize = 48;
+/// The most records in a ring.
+pub const RING_LIMIT: usize = 16;
+/// The least length of a result: word, taken, two numbers, signature.
+pub const RESULT_SIZE: usize = 96;
+
+/// The word of a feed that brought no event.
+pub const MORE: u8 = 0;
+/// The word of a question; its numbers are the message's length and the record's number.
+pub const QUESTION: u8 = 1;
+/// The word of an accepted head; its number is the status.
+pub const HEAD: u8 = 2;
+/// The word of a released block; its numbers are the offset and the length.
+pub const BLOCK: u8 = 3;
+/// The word of a closed stream; its number is the body's length.
+pub const CLOSED: u8 = 4;
+/// The word of a refusal; its number is the refusal's.
+pub const REFUSED: u8 = 5;
+/// What a call returns where the state or the result is too short.
+pub const SHORT: u8 = 255;
+
+extern "C" {
+    fn ouinet_reader_fresh(state: *mut u8, state_len: usize) -> u8;
+    fn ouinet_reader_feed(
+        state: *mut u8,
+        state_len: usize,
+        head: *mut u8,
+        head_len: usize,
+        block: *mut u8,
+        block_len: usize,
+        question: *mut u8,
+        question_len: usize,
+        ring: *const u8,
+        ring_len: usize,
+        piece: *const u8,
+        piece_len: usize,
+        result: *mut u8,
+        result_len: usize,
+    ) -> u8;
+    fn ouinet_reader_answer(
+        state: *mut u8,
+        state_len: usize,
+        head: *mut u8,
+        head_len: usize,
+        block: *mut u8,
+        block_len: usize,
+        question: *mut u8,
+        question_len: usize,
+        good: u8,
+        result: *mut u8,
+        result_len: usize,
+    ) -> u8;
+    fn ouinet_reader_end(
+        state: *mut u8,
+        state_len: usize,
+        head: *mut u8,
+        head_len: usize,
+        block: *mut u8,
+        block_len: usize,
+        question: *mut u8,
+        question_len: usize,
+        result: *mut u8,
+        result_len: usize,
+    ) -> u8;
+    fn ouinet_reader_block(state: *const u8, state_len: usize, block: *const u8, block_len: usize) -> usize;
+    fn ouinet_reader_value(
+        state: *const u8,
+        state_len: usize,
+        head: *const u8,
+        head_len: usize,
+        name: *const u8,
+        name_len: usize,
+        value: *mut u8,
+        value_len: usize,
+    ) -> usize;
+}
+
+/// The buffers that a call is lent and may change.
+pub struct Lent<'a> {
+    /// The reader's state.
+    pub state: &'a mut [u8],
+    /// Where the head is gathered.
+    pub head: &'a mut [u8],
+    /// Where a block, and later the trailer, is gathered.
+    pub block: &'a mut [u8],
+    /// Where a question's message is written.
+    pub question: &'a mut [u8],
+    /// Where the call's result is written.
+    pub result: &'a mut [u8],
+}
+
+/// Writes the state before the first byte. Returns 0, or [`SHORT`].
+pub fn fresh(state: &mut [u8]) -> u8 {
+    // SAFETY: the pointer and the length are those of a slice that nothing else uses during the call.
+    unsafe { ouinet_reader_fresh(state.as_mut_ptr(), state.len()) }
+}
+
+/// Feeds a piece. Returns the word, which the result holds too, or [`SHORT`].
+pub fn feed(lent: &mut Lent, ring: &[u8], piece: &[u8]) -> u8 {
+    // SAFETY: each pointer and the length after it are those of a slice. The exclusive ones overlap nothing, which their
+    // borrows ensure. The library keeps no pointer, and reads and writes within these lengths for any bytes in them.
+    unsafe {
+        ouinet_reader_feed(
+            lent.state.as_mut_ptr(),
+            lent.state.len(),
+            lent.head.as_mut_ptr(),
+            lent.head.len(),
+            lent.block.as_mut_ptr(),
+            lent.block.len(),
+            lent.question.as_mut_ptr(),
+            lent.question.len(),
+            ring.as_ptr(),
+            ring.len(),
+            piece.as_ptr(),
+            piece.len(),
+            lent.result.as_mut_ptr(),
+            lent.result.len(),
+        )
+    }
+}
+
+/// Answers the open question; 0 is no, anything else yes. Returns the word, or [`SHORT`].
+pub fn answer(lent: &mut Lent, good: u8) -> u8 {
+    // SAFETY: as for `feed`.
+    unsafe {
+        ouinet_reader_answer(
+            lent.state.as_mut_ptr(),
+            lent.state.len(),
+            lent.head.as_mut_ptr(),
+            lent.head.len(),
+            lent.block.as_mut_ptr(),
+            lent.block.len(),
+            lent.question.as_mut_ptr(),
+            lent.question.len(),
+            good,
+            lent.result.as_mut_ptr(),
+            lent.result.len(),
+        )
+    }
+}
+
+/// Says that no bytes will follow. Returns the word, or [`SHORT`].
+pub fn end(lent: &mut Lent) -> u8 {
+    // SAFETY: as for `feed`.
+    unsafe {
+        ouinet_reader_end(
+            lent.state.as_mut_ptr(),
+            lent.state.len(),
+            lent.head.as_mut_ptr(),
+            lent.head.len(),
+            lent.block.as_mut_ptr(),
+            lent.block.len(),
+            lent.question.as_mut_ptr(),
+            lent.question.len(),
+            lent.result.as_mut_ptr(),
+            lent.result.len(),
+        )
+    }
+}
+
+/// How many first bytes of the block buffer are the released block; 0 where none is out or a buffer is too short.
+pub fn block(state: &[u8], block: &[u8]) -> usize {
+    // SAFETY: each pointer and the length after it are those of a slice, which the library only reads.
+    unsafe { ouinet_reader_block(state.as_ptr(), state.len(), block.as_ptr(), block.len()) }
+}
+
+/// The length of a signed field's value, which is copied to the front of `value` where it fits whole; 0 where there is none.
+pub fn value(state: &[u8], head: &[u8], name: &[u8], value: &mut [u8]) -> usize {
+    // SAFETY: each pointer and the length after it are those of a slice. The library writes to the last one alone, and
+    // within its length; its borrow is exclusive.
+    unsafe {
+        ouinet_reader_value(
+            state.as_ptr(),
+            state.len(),
+            head.as_ptr(),
+            head.len(),
+            name.as_ptr(),
+            name.len(),
+            value.as_mut_ptr(),
+            value.len(),
+        )
+    }
+}
+
+/// What a call writes at the front of a result.
+#[derive(Debug, Clone, Copy, PartialEq, Eq)]
+pub struct Outcome {
+    /// One of the words above.
+    pub word: u64,
+    /// How many bytes of the piece were taken.
+    pub taken: u64,
+    /// The word's first number.
+    pub first: u64,
+    /// The word's second number.
+    pub second: u64,
+}
+
+impl Outcome {
+    /// Reads the four numbers.
+    pub fn of(result: &[u8; RESULT_SIZE]) -> Self {
+        let number = |place: usize| {
+            let mut bytes = [0; 8];
+            bytes.copy_from_slice(&result[place..place + 8]);
+            u64::from_le_bytes(bytes)
+        };
+        Outcome { word: number(0), taken: number(8), first: number(16), second: number(24) }
+    }
+}
+
+/// The signature in a result: that of a question, or zeros.
+pub fn signature(result: &[u8; RESULT_SIZE]) -> &[u8; 64] {
+    // The range has 64 bytes, so this never panics.
+    result[32..96].try_into().expect("64 bytes")
+}

@@ -1,0 +1,144 @@
+//! The reader with buffers of its own.
+
+use crate::event::{Event, Question};
+use crate::raw::{self, Lent, Outcome};
+use crate::refusal::Refusal;
+use crate::ring::Ring;
+use std::fmt;
+
+/// A call that came when it has no place: a feed or an end while a question is open, an answer while none is, or any call
+/// after the last event. It changes nothing. The specification's number for it is 1.
+#[derive(Debug, Clone, Copy, PartialEq, Eq)]
+pub struct NotDue;
+
+impl fmt::Display for NotDue {
+    fn fmt(&self, out: &mut fmt::Formatter) -> fmt::Result {
+        out.write_str("the call is not due: a question waits for its answer, or there is none, or the stream is over")
+    }
+}
+
+impl std::error::Error for NotDue {}
+
+/// What a feed did.
+#[derive(Debug, Clone, Copy, PartialEq, Eq)]
+pub struct Fed<'r> {
+    /// How many bytes of the piece were taken. The rest is to be fed again, after the event was dealt with.
+    pub taken: usize,
+    /// The event that they brought. With none, the whole piece was taken and more bytes are wanted.
+    pub event: Option<Event<'r>>,
+}
+
+/// A reader of one stream. It takes about 82 kB, whatever the length of the stream, and can be cloned at any time.
+#[derive(Clone)]
+pub struct Reader {
+    ring: Ring,
+    state: [u8; raw::STATE_SIZE],
+    result: [u8; raw::RESULT_SIZE],
+    head: Box<[u8]>,
+    block: Box<[u8]>,
+    question: Box<[u8]>,
+}
+
+impl Reader {
+    /// A reader that waits for a stream's first byte.
+    pub fn new(ring: Ring) -> Self {
+        let mut state = [0; raw::STATE_SIZE];
+        let done = raw::fresh(&mut state);
+        assert_eq!(done, 0, "the linked library wants a longer state than this crate was written for");
+        Reader {
+            ring,
+            state,
+            result: [0; raw::RESULT_SIZE],
+            head: vec![0; raw::HEAD_SIZE].into(),
+            block: vec![0; raw::BLOCK_SIZE].into(),
+            question: vec![0; raw::QUESTION_SIZE].into(),
+        }
+    }
+
+    /// Feeds bytes of the stream, in a piece of any length. They are taken up to the first event, or all.
+    pub fn feed(&mut self, piece: &[u8]) -> Result<Fed<'_>, NotDue> {
+        let (mut lent, ring) = self.lend();
+        raw::feed(&mut lent, ring.as_bytes(), piece);
+        let event = self.event()?;
+        let taken = Outcome::of(&self.result).taken as usize;
+        Ok(Fed { taken, event })
+    }
+
+    /// Answers the open question: whether the signature is good. A yes gives [`Event::HeadAccepted`] or [`Event::Block`], a
+    /// no [`Refusal::BadSignature`].
+    pub fn answer(&mut self, good: bool) -> Result<Event<'_>, NotDue> {
+        raw::answer(&mut self.lend().0, u8::from(good));
+        self.event()?.ok_or(NotDue)
+    }
+
+    /// Says that no bytes will follow. Since a closed stream has had its last event, this is [`Refusal::Unfinished`].
+    pub fn end(&mut self) -> Result<Event<'_>, NotDue> {
+        raw::end(&mut self.lend().0);
+        self.event()?.ok_or(NotDue)
+    }
+
+    /// The released block, from its event to the next feed or end; at other times nothing.
+    pub fn block(&self) -> &[u8] {
+        &self.block[..raw::block(&self.state, &self.block)]
+    }
+
+    /// The value of a field of the accepted head, whatever the case of its name. It is empty before the head is accepted
+    /// and for a field that is not signed.
+    pub fn value(&self, name: impl AsRef<[u8]>) -> Vec<u8> {
+        let mut value = vec![0; raw::HEAD_SIZE];
+        let length = raw::value(&self.state, &self.head, name.as_ref(), &mut value);
+        value.truncate(length);
+        value
+    }
+
+    /// The key ring that the reader was made with.
+    pub fn ring(&self) -> &Ring {
+        &self.ring
+    }
+
+    /// The buffers for a call, and the ring.
+    fn lend(&mut self) -> (Lent<'_>, &Ring) {
+        let lent = Lent {
+            state: &mut self.state,
+            head: &mut self.head,
+            block: &mut self.block,
+            question: &mut self.question,
+            result: &mut self.result,
+        };
+        (lent, &self.ring)
+    }
+
+    /// The event in the last call's result. Refusals 1 and 2 are none; 2 would be about buffers that this crate makes.
+    pub(crate) fn event(&self) -> Result<Option<Event<'_>>, NotDue> {
+        let Outcome { word, first, second, .. } = Outcome::of(&self.result);
+        Ok(match word as u8 {
+            raw::MORE => None,
+            raw::QUESTION => Some(Event::Question(self.question(first as usize, second as usize))),
+            raw::HEAD => Some(Event::HeadAccepted { status: first as u16 }),
+            raw::BLOCK => Some(Event::Block { offset: first, bytes: &self.block[..second as usize] }),
+            raw::CLOSED => Some(Event::Closed { total: first }),
+            _ if first == 1 => return Err(NotDue),
+            _ => {
+                let refusal = Refusal::from_number(first);
+                Some(Event::Refused(
+                    refusal.expect("the linked library is another one than this crate was written for"),
+                ))
+            }
+        })
+    }
+
+    fn question(&self, length: usize, record: usize) -> Question<'_> {
+        Question {
+            key: &self.ring.records()[record].key,
+            record,
+            message: &self.question[..length],
+            signature: raw::signature(&self.result),
+        }
+    }
+}
+
+impl fmt::Debug for Reader {
+    fn fmt(&self, out: &mut fmt::Formatter) -> fmt::Result {
+        out.debug_struct("Reader").field("ring", &self.ring).finish_non_exhaustive()
+    }
+}
