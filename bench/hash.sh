@@ -8,7 +8,7 @@ rustc --edition 2021 -O -L target/staticlib -l static=hash_export -o target/benc
 target/bench/hash | tee target/bench/hash.out
 
 # OpenSSL says how many thousands of bytes it hashes in a second; ours took so many seconds for 64 MiB.
-openssl speed -seconds 3 -bytes 65536 -evp sha512 2>/dev/null >target/bench/openssl.out
+openssl speed -elapsed -seconds 3 -bytes 65536 -evp sha512 2>/dev/null >target/bench/openssl.out
 awk '
     FNR == NR && $1 == "proved" { ours = 64 * 1024 * 1024 / $2 }
     FNR != NR && $1 == "sha512" { theirs = $2 * 1000 }
