@@ -5,3 +5,4 @@ pub mod Demand2
 pub mod DayTally
 pub mod LentRing
 pub mod Reached
+pub mod OnBytes

@@ -3,3 +3,4 @@ pub mod Runs
 pub mod Lent
 pub mod Words
 pub mod Ordinary
+pub mod Asked
