@@ -3,5 +3,4 @@ pub mod ChainLaws
 pub mod ReadLaws
 pub mod RuleLaws
 pub mod AnswerLaws
-pub mod WritingLaws
 pub mod MessageLaws

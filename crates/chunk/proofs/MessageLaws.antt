@@ -2,7 +2,7 @@
 -- the hash. Assumes nothing.
 use mathlib.Core.Bool.{Bool, true, false}
 use mathlib.Core.List.{List, _∷_, _++_}
-use mathlib.Core.Path.{_≡_, refl, _∙_}
+use mathlib.Core.Path.{_≡_, refl, sym, ap, _∙_}
 use Prim.Native.Nat.{ℕ, _+_, _-_, _≤_, _<_, _^_, min}
 use native.Mathlib.Nat.{sub-zero, min-eq-left}
 use native.Mathlib.Omega.{arith}
@@ -12,11 +12,12 @@ use lib.ListN.{length, take, drop, replicate, length-append, length-take}
 use lib.Seq.{take-all, take-append-seam}
 use Rattle.number.proofs.Numerals.{twenty-digits}
 use Rattle.number.proofs.Placing.{decimal-fits}
-use Rattle.number.specs.Writing.{written, over, decimalWritten}
+use Rattle.number.specs.Writing.{Written, written, over, decimalWritten}
 use Rattle.stream.specs.Blocks.{blockMessage}
 use Rattle.stream.specs.Numbers.{decimal}
+use Rattle.text.specs.Writing.{Placed, placed, wrote}
+use Rattle.text.proofs.WritingLaws.{wrote-front}
 use Rattle.chunk.specs.Writing.{atFront, messageWritten}
-use Rattle.chunk.proofs.WritingLaws.{count-is, bytes-are}
 
 -- ---- by the room
 
@@ -45,6 +46,14 @@ id-part id k e l f = by (leb k 64) refl
 over-front : (o l : List ℕ) → take (length l) (over o 0 l) ≡ l
 unfolding over
 over-front o l = take-append-seam l (drop (0 + length l) o)
+
+-- what a count and a buffer are, from an equation of both
+module _ {m n : ℕ} {a b : List ℕ} (e : written m a ≡ written n b) where
+  count-is : m ≡ n
+  count-is = ap (λ (w : Written). w .count) e
+
+  bytes-are : a ≡ b
+  bytes-are = ap (λ (w : Written). w .bytes) e
 
 module _ (n count : ℕ) (d : List ℕ) (h : n < 2 ^ 64) (w : written count d ≡ decimalWritten (replicate 20 0) 0 n) where
   digits-written : written count d ≡ written (length (decimal n)) (over (replicate 20 0) 0 (decimal n))
@@ -76,6 +85,10 @@ module _ (n count : ℕ) (d : List ℕ) (h : n < 2 ^ 64) (w : written count d �
     pub left-out : (out : List ℕ) → length out < e + count + 66 → messageWritten message out ≡ written 0 out
     left-out out r = message-no-room message out (omega (arith, message-length))
 
-    pub put-in : (out b : List ℕ) → e + count + 66 ≤ length out → b ≡ atFront (take (e - 0) (drop 0 id) ++ 0 ∷ (take (count - 0) (drop 0 d) ++ 0 ∷ hash)) out
-        → messageWritten message out ≡ written (e + count + 66) b
-    put-in out b r q = message-fits message out (omega (arith, message-length)) ∙ rw (q, message-parts, message-length)
+    pub put-in : (out b : List ℕ) (k : ℕ) → e + count + 66 ≤ length out → placed k b ≡ wrote out 0 (take (e - 0) (drop 0 id) ++ 0 ∷ (take (count - 0) (drop 0 d) ++ 0 ∷ hash))
+        → messageWritten message out ≡ written k b
+    unfolding atFront
+    put-in out b k r q =
+        let l : length message ≤ length out = omega (arith, message-length) in
+        let w = q ∙ ap (wrote out 0) message-parts ∙ wrote-front out message l in
+        message-fits message out l ∙ sym (ap (λ (p : Placed). written (p .next) (p .bytes)) w)

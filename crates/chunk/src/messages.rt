@@ -2,44 +2,21 @@
 use crate::places::ByteOffset;
 ghost use mathlib.Core.List.{_++_, _∷_};
 ghost use mathlib.Core.Path.{_≡_};
-ghost use Prim.Native.Nat.{_+_, _≤_, min};
-ghost use lib.ListN.{length, take};
-ghost use Rattle.number.specs.Writing.{written, over};
+ghost use lib.ListN.{take};
+ghost use Rattle.number.specs.Writing.{written};
 ghost use Rattle.stream.specs.Blocks.{blockMessage};
-ghost use Rattle.chunk.specs.Writing.{atFront, messageWritten};
+ghost use Rattle.text.specs.Writing.{placed, wrote};
+ghost use Rattle.chunk.specs.Writing.{messageWritten};
 
-fn least(a: usize, b: usize) -> usize
-    ensures { λ r. ⌜ r ≡ min a b ⌝ }
+// Writes the parts of a message, with a zero byte after each but the last, and returns the place after them.
+fn join(out: &mut [u8], id: &[u8], offset: &[u8], hash: &[u8]) -> usize
+    ensures { λ r. ⌜ placed r (now (out .exit)) ≡ wrote (now (out .entry)) 0 (now (id .entry) ++ 0 ∷ (now (offset .entry) ++ 0 ∷ now (hash .entry))) ⌝ }
 {
-    if a < b {
-        return a;
-    }
-    b
-}
-
-// Writes a part from the place `at` on and returns the place after it.
-fn put(out: &mut [u8], at: usize, part: &[u8]) -> usize
-    requires { ⌜ at + length (now part) ≤ length (now out) ⌝ }
-    ensures { λ r. ⌜ written r (now (out .exit)) ≡ written (at + length (now (part .entry))) (over (now (out .entry)) at (now (part .entry))) ⌝ }
-{
-    let mut i = 0;
-    while i < part.len() {
-        out[at + i] = part[i];
-        i += 1;
-    }
-    at + i
-}
-
-// Writes the parts of a message, with a zero byte after each but the last.
-fn join(out: &mut [u8], id: &[u8], offset: &[u8], hash: &[u8])
-    requires { ⌜ length (now id) + length (now offset) + length (now hash) + 2 ≤ length (now out) ⌝ }
-    ensures { λ _. ⌜ now (out .exit) ≡ atFront (now (id .entry) ++ 0 ∷ (now (offset .entry) ++ 0 ∷ now (hash .entry))) (now (out .entry)) ⌝ }
-{
-    let id_end = put(out, 0, id);
-    let offset_start = put(out, id_end, b"\0");
-    let offset_end = put(out, offset_start, offset);
-    let hash_start = put(out, offset_end, b"\0");
-    put(out, hash_start, hash);
+    let id_end = text::put(out, 0, id);
+    let offset_start = text::put(out, id_end, b"\0");
+    let offset_end = text::put(out, offset_start, offset);
+    let hash_start = text::put(out, offset_end, b"\0");
+    text::put(out, hash_start, hash)
 }
 
 // Writes the message of the block at an offset, of the show whose id is the first bytes of `id`, and returns the message's
@@ -56,11 +33,10 @@ pub fn message(
     let mut digits = [0u8; 20];
     let at = offset.0;
     let count = number::write_decimal(&mut digits, 0, at);
-    let id_end = least(id_length, 64);
+    let id_end = text::least(id_length, 64);
     let total = id_end + count + 66;
     if out.len() < total {
         return 0;
     }
-    join(out, &id[0..id_end], &digits[0..count], &hash);
-    total
+    join(out, &id[0..id_end], &digits[0..count], &hash)
 }

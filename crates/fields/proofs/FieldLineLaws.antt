@@ -21,10 +21,11 @@ use Rattle.text.proofs.SpanLaws.{span-order, span-within, span-trims}
 use Rattle.text.specs.Span.{spanOf}
 use Rattle.text.specs.declared.spans.Span.{Span}
 use Rattle.fields.specs.Answers.{answer, noLine, ReadsField}
-use Rattle.fields.specs.Table.{partOf, noEntry, entryField}
+use Rattle.text.specs.Place.{partOf}
+use Rattle.fields.specs.Table.{noEntry, entryField}
 use Rattle.fields.specs.declared.line.FieldLine.{FieldLine}
 use Rattle.fields.proofs.AnswerLaws.{both-bad}
-use Rattle.fields.proofs.TableLaws.{part-shift}
+use Rattle.text.proofs.PlaceLaws.{part-shift}
 
 abbrev afterName : List Part
 afterName = text (octets ":") ∷ bytes isText ∷ []

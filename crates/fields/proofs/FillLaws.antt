@@ -2,20 +2,21 @@
 use mathlib.Core.Path.{_≡_, refl, sym, ap, _∙_}
 use mathlib.Core.Bool.{Bool, true, false}
 use mathlib.Core.List.{List, [], _∷_, _++_}
-use Prim.Native.Nat.{ℕ, zero, suc, _+_, _-_, _≤_, _<_, min}
+use Prim.Native.Nat.{ℕ, zero, suc, _+_, _≤_, _<_, min}
 use native.Mathlib.Nat.{add-zero, zero-add}
 use native.Mathlib.Numerals.{add-one}
 use native.Mathlib.Omega.{arith}
 use borrow.Author.Tests.{eqb-true, eqb-false}
 use lib.Dec.{eqb}
-use lib.ListN.{length, getD, set, replicate, take, drop, length-take, length-drop, take-append-drop}
-use lib.Seq.{getD-set-same, getD-set-other, take-append-le, drop-append-le}
+use lib.ListN.{length, getD, set, replicate}
+use lib.Seq.{getD-set-same, getD-set-other}
 use Rattle.fields.specs.Answers.{answer, Within, ReadsField}
 use Rattle.fields.specs.declared.line.FieldLine.{FieldLine}
-use Rattle.fields.specs.Table.{partOf, noEntry, entryField, fieldsFrom, fieldsIn}
+use Rattle.text.specs.Place.{partOf}
+use Rattle.fields.specs.Table.{noEntry, entryField, fieldsFrom, fieldsIn}
 use Rattle.fields.specs.declared.table.Entry.{Entry}
 use Rattle.fields.specs.declared.table.Fields.{Fields}
-use Rattle.fields.proofs.TableLaws.{part-shift}
+use Rattle.text.proofs.PlaceLaws.{part-moved, part-length}
 
 -- ---- the fields, where one entry more is set
 
@@ -71,31 +72,21 @@ set-within size es k e h w x j = go (eqb j k) refl
 abbrev pub moved : ℕ → Entry → Entry
 moved i e = record { «name_start» = i + e .«name_start»; «name_end» = i + e .«name_end»; «value_start» = i + e .«value_start»; «value_end» = i + e .«value_end» }
 
-part-front : (l : List ℕ) (m a b : ℕ) → a ≤ b → b ≤ length (take m l) → partOf (take m l) a b ≡ partOf l a b
-unfolding partOf
-part-front l m a b h k =
-    let d = drop-append-le a (take m l) (drop m l) (omega arith) in
-    let t = take-append-le (b - a) (drop a (take m l)) (drop m l) (omega (arith, length-drop a (take m l))) in
-    sym t ∙ ap (take (b - a)) (sym d) ∙ ap (λ (x : List ℕ). take (b - a) (drop a x)) (take-append-drop m l)
-
-part-moved : (text : List ℕ) (i n a b : ℕ) → a ≤ b → b ≤ length (partOf text i n) → partOf (partOf text i n) a b ≡ partOf text (i + a) (i + b)
-unfolding partOf
-part-moved text i n a b h k = part-front (drop i text) (n - i) a b h k ∙ sym (part-shift text i a b)
-
-part-length : (text : List ℕ) (i n : ℕ) → n ≤ length text → length (partOf text i n) ≡ n - i
-unfolding partOf
-part-length text i n k = omega (arith, length-take (n - i) (drop i text), length-drop i text)
-
-pub moved-field : (text : List ℕ) (i n : ℕ) (e : Entry) → Within (length (partOf text i n)) e → entryField (partOf text i n) e ≡ entryField text (moved i e)
+moved-field : (text : List ℕ) (i n : ℕ) (e : Entry) → n ≤ length text → Within (length (partOf text i n)) e → entryField (partOf text i n) e ≡ entryField text (moved i e)
 unfolding entryField
-moved-field text i n e w = rw (part-moved text i n (e .«name_start») (e .«name_end») (w .name-ordered) (w .name-within), part-moved text i n (e .«value_start») (e .«value_end») (w .value-ordered) (w .value-within))
+moved-field text i n e k w =
+    let l = part-length text i n k in
+    rw (
+      part-moved text i n (e .«name_start») (e .«name_end») (w .name-ordered) (omega (arith, w .name-within)),
+      part-moved text i n (e .«value_start») (e .«value_end») (w .value-ordered) (omega (arith, w .value-within)),
+    )
 
 pub reads-moved : (text : List ℕ) (i n : ℕ) (r : FieldLine) → i ≤ n → n ≤ length text → ReadsField (partOf text i n) (partOf text i n) r → ReadsField text (partOf text i n) (record { good = r .good; entry = moved i (r .entry) })
 reads-moved text i n r h k x =
     let w = x .within in
     let l = part-length text i n k in
     record {
-      meaning = ap (answer (r .good)) (sym (moved-field text i n (r .entry) w)) ∙ x .meaning;
+      meaning = ap (answer (r .good)) (sym (moved-field text i n (r .entry) k w)) ∙ x .meaning;
       within = record {
         name-ordered = omega (arith, w .name-ordered);
         name-within = omega (arith, w .name-within);

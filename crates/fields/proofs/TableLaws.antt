@@ -1,53 +1,16 @@
--- Parts of a text, and tables of them. Assumes nothing.
-use mathlib.Core.Path.{_≡_, refl, sym, _∙_}
-use mathlib.Core.Bool.{Bool, true, false, _||_}
+-- Tables of parts of a text. Assumes nothing.
+use mathlib.Core.Path.{_≡_, _∙_}
+use mathlib.Core.Bool.{true, false, _||_}
 use mathlib.Core.List.{List, [], _∷_}
 use Prim.Native.Nat.{ℕ, suc, _+_, _-_, _≤_, _<_, min}
 use native.Mathlib.Nat.{sub-zero}
 use native.Mathlib.Omega.{arith}
-use borrow.Author.Tests.{leb-true, leb-false}
-use lib.Dec.{leb}
-use lib.ListN.{length, getD, take, drop, length-drop}
-use lib.Seq.{take-all, drop-drop}
+use lib.ListN.{getD}
 use Rattle.stream.specs.Bytes.{sameName}
 use Rattle.stream.specs.Fields.{among, isDoubled, namesOf, valueOf}
-use Rattle.fields.specs.Table.{partOf, entryName, entryValue, entryField, noEntry, fieldsFrom, fieldsIn}
+use Rattle.fields.specs.Table.{entryName, entryValue, entryField, noEntry, fieldsFrom, fieldsIn}
 use Rattle.fields.specs.declared.table.Entry.{Entry}
 use Rattle.fields.specs.declared.table.Fields.{Fields}
-
--- ---- parts
-
--- what the code lends as `&text[start..end]`
-pub part-is : (text : List ℕ) (start end : ℕ) → partOf text start end ≡ take (end - start) (drop start text)
-unfolding partOf
-part-is text start end = refl
-
--- as the code cuts it: the end is no further than the text's
-
-module _ (text : List ℕ) (start end : ℕ) where
-  pub part-cut : partOf text start end ≡ take (min end (length text) - start) (drop start text)
-  unfolding partOf
-  part-cut = go (leb end (length text)) refl
-    where
-      go : (t : Bool) → leb end (length text) ≡ t → take (end - start) (drop start text) ≡ take (min end (length text) - start) (drop start text)
-      go true k =
-          let e : min end (length text) ≡ end = omega (arith, leb-true end (length text) k) in
-          rw e
-      go false k =
-          let h : length text < end = leb-false end (length text) k in
-          take-all (end - start) (drop start text) (omega (arith, length-drop start text)) ∙ sym (take-all (min end (length text) - start) (drop start text) (omega (arith, length-drop start text)))
-
-  pub part-none : min end (length text) ≤ start → partOf text start end ≡ []
-  part-none h =
-      let e : min end (length text) - start ≡ 0 = omega arith in
-      part-cut ∙ rw e
-
--- a part of what comes after place k
-pub part-shift : (text : List ℕ) (k a b : ℕ) → partOf text (k + a) (k + b) ≡ partOf (drop k text) a b
-unfolding partOf
-part-shift text k a b =
-    let e : k + b - (k + a) ≡ b - a = omega arith in
-    rw (e, ← drop-drop a k text)
 
 -- ---- the fields of a table from entry i on, of n
 

@@ -1,16 +1,13 @@
--- What a table of fields says of the text that it was made from: the bytes at its places. A place past the text's end, or
--- a start after its end, stands for nothing, so a table of any numbers has fields. Assumes nothing.
+-- What a table of fields says of the text that it was made from: the bytes at its places, so a table of any numbers has fields.
+-- Assumes nothing.
 use mathlib.Core.List.{List, [], _∷_}
-use Prim.Native.Nat.{ℕ, zero, suc, _+_, _-_, min}
-use lib.ListN.{getD, take, drop}
+use Prim.Native.Nat.{ℕ, zero, suc, _+_, min}
+use lib.ListN.{getD}
 use Rattle.stream.specs.Limits.{fieldLimit}
 use Rattle.stream.specs.Lines.{Field}
+use Rattle.text.specs.Place.{partOf}
 use Rattle.fields.specs.declared.table.Entry.{Entry}
 use Rattle.fields.specs.declared.table.Fields.{Fields}
-
--- the text from start up to end, as far as it goes
-unfoldable pub partOf : List ℕ → ℕ → ℕ → List ℕ
-partOf text start end = take (end - start) (drop start text)
 
 abbrev pub entryName : List ℕ → Entry → List ℕ
 entryName text e = partOf text (e .«name_start») (e .«name_end»)

@@ -16,6 +16,5 @@ pub use reading::read_fields;
 pub use table::Entry;
 pub use table::Fields;
 pub use table::Value;
-pub use table::part;
 pub use trailer::ends_trailer;
 pub use trailer::is_trailer;

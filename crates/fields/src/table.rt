@@ -1,9 +1,6 @@
-// The fields of a head as places in its text, and the bytes between two places.
-ghost use mathlib.Core.Bool.{true};
+// The fields of a head as places in its text.
 ghost use mathlib.Core.Path.{_≡_};
-ghost use Prim.Native.Nat.{min};
-ghost use Rattle.fields.specs.Table.{noEntry, partOf};
-ghost use Rattle.fields.specs.Answers.{Finds};
+ghost use Rattle.fields.specs.Table.{noEntry};
 
 // The most fields that a head may have.
 pub const FIELD_LIMIT: usize = 64;
@@ -39,39 +36,4 @@ pub struct Value {
     pub found: bool,
     pub start: usize,
     pub end: usize,
-}
-
-pub fn least(a: usize, b: usize) -> usize
-    ensures { λ r. ⌜ r ≡ min a b ⌝ }
-{
-    if a < b { a } else { b }
-}
-
-// The text from `start` up to `end`, as far as it goes: places that lie within it, whatever numbers are given.
-pub fn clip(text: &[u8], start: usize, end: usize) -> Value
-    ensures { λ r. ⌜ Finds (now (text .entry)) true (partOf (now (text .entry)) start end) r ⌝ }
-{
-    let stop = least(end, text.len());
-    if stop <= start {
-        return Value {
-            found: true,
-            start: 0,
-            end: 0,
-        };
-    }
-    Value {
-        found: true,
-        start,
-        end: stop,
-    }
-}
-
-// The bytes themselves.
-pub fn part(text: &[u8], start: usize, end: usize) -> &[u8]
-    ensures { λ r. ⌜ now r ≡ partOf (now (text .entry)) start end ⌝ }
-{
-    let v = clip(text, start, end);
-    let a = v.start;
-    let b = v.end;
-    &text[a..b]
 }

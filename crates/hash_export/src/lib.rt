@@ -1,19 +1,6 @@
 // SHA-512 for a program in C or Rust, with numbers and slices of bytes alone.
 ghost use mathlib.Core.Path.{_≡_};
-ghost use lib.ListN.{length};
 ghost use Rattle.hash_export.specs.Export.{made, answered};
-
-// Copies from over to.
-fn copy(to: &mut [u8], from: &[u8])
-    requires { ⌜ length (now to) ≡ length (now from) ⌝ }
-    ensures { λ r. ⌜ now (to .exit) ≡ now (from .entry) ⌝ }
-{
-    let mut i = 0;
-    while i < from.len() {
-        to[i] = from[i];
-        i += 1;
-    }
-}
 
 // Writes the hash of before and then message to out. Where before or out has not 64 bytes, the answer is false and out is left.
 #[no_mangle]
@@ -27,8 +14,8 @@ pub extern "C" fn thawrushes_sha512_after(before: &[u8], message: &[u8], out: &m
         return false;
     }
     let mut start = [0u8; 64];
-    copy(&mut start, before);
+    text::put(&mut start, 0, before);
     let h = hash::sha512_after(start, message);
-    copy(out, &h);
+    text::put(out, 0, &h);
     true
 }

@@ -7,7 +7,7 @@ use Rattle.stream.specs.Head.{headOf, textRules, statusDigits, listedNames}
 use Rattle.stream.specs.Lines.{isStatusLine, areFieldLines}
 use Rattle.stream.specs.Signatures.{isInjection, isBsigs, isSig0, createdText, isNameList}
 use Rattle.stream.proofs.RulesHold.{AllHold, rules-hold}
-use Rattle.fields.specs.Table.{partOf}
+use Rattle.text.specs.Place.{partOf}
 use Rattle.params.specs.NameList.{namesIn}
 use Rattle.params.proofs.Answers.{sig0-created, sig0-names}
 use Rattle.head.specs.Reading.{Reads}
@@ -49,9 +49,7 @@ module _ (text : List ℕ) (r : HeadRead) (x : Reads text r) (z : r .fault ≡ 0
   digits-there = sym (status-place text status-good)
 
   pub created-there : partOf text (r .signed .sig0 .«created_start») (r .signed .sig0 .«created_end») ≡ createdText (headOf text .sig0)
-  unfolding partOf
   created-there = sig0-created (x .says z .sig0) sig0-good
 
   pub names-there : (list : List ℕ) → list ≡ partOf text (r .signed .sig0 .«names_start») (r .signed .sig0 .«names_end») → namesIn list (r .signed .names) ≡ listedNames (headOf text)
-  unfolding partOf
   names-there list e = ap (λ (l : List ℕ). namesIn l (r .signed .names)) (e ∙ sig0-names (x .says z .sig0) sig0-good) ∙ x .says z .names

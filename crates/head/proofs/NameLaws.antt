@@ -13,7 +13,7 @@ use Rattle.stream.specs.Bytes.{sameName}
 use Rattle.stream.specs.Fields.{among, isDoubled, hasField}
 use Rattle.stream.specs.Limits.{nameLimit}
 use Rattle.stream.specs.Lines.{Field}
-use Rattle.stream.specs.Signatures.{areFields, isNameList, listedFields, responseStatus, created, versionName, uriName, injectionName, sig0Name}
+use Rattle.stream.specs.Signatures.{areFields, isNameList, listedFields, responseStatusName, createdName, versionName, uriName, injectionName, sig0Name}
 use Rattle.stream.specs.Template.{nth}
 use Rattle.text.specs.declared.spans.Span.{Span}
 use Rattle.params.specs.NameList.{spanBytes, noSpan, namesFrom, namesIn}
@@ -88,8 +88,8 @@ nth-is (suc k) (n ∷ ns) = nth-is k ns
 pub list-is : (fs : List Field) (ns : List (List ℕ)) → length ns ≤ nameLimit
     → isNameList fs ns
     ≡ not (isDoubled ns)
-    && (sameName (getD ns 0 []) responseStatus
-    && (sameName (getD ns 1 []) created
+    && (sameName (getD ns 0 []) responseStatusName
+    && (sameName (getD ns 1 []) createdName
     && (areFields fs (listedFields ns) && (among versionName ns && (among uriName ns && (among injectionName ns && not (among sig0Name ns)))))))
 unfolding isNameList
 list-is fs ns h = rw (le-leb (length ns) nameLimit h, nth-is 0 ns, nth-is 1 ns)

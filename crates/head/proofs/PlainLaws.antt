@@ -12,7 +12,7 @@ use Rattle.stream.specs.Lines.{Field}
 use Rattle.stream.specs.Numbers.{numberFrom, decimalValue}
 use Rattle.stream.specs.Rule.{firstBroken}
 use Rattle.stream.specs.Signatures.{versionName}
-use Rattle.text.proofs.SameLaws.{same-eq}
+use Rattle.stream.proofs.Truth.{same-equal}
 use Rattle.head.specs.Steps.{versionRules, statusNumber}
 
 -- ---- the version
@@ -35,7 +35,7 @@ module _ (fs : List Field) where
 -- d is the status k
 pub is-number : (d k : List ℕ) → isStatus k ≡ true → same d k ≡ true → decimalValue k ≡ statusNumber d
 unfolding statusNumber
-is-number d k h e = rw (same-eq d k e, h)
+is-number d k h e = rw (same-equal d k e, h)
 
 pub no-number : (d : List ℕ) → same d (octets "200") ≡ false → same d (octets "301") ≡ false → same d (octets "302") ≡ false
     → same d (octets "307") ≡ false → 0 ≡ statusNumber d
@@ -52,7 +52,7 @@ unfolding statusNumber same numberFrom
 status-test d = go (same d (octets "200")) refl (same d (octets "301")) refl (same d (octets "302")) refl (same d (octets "307")) refl
   where
     one : (k : List ℕ) → isStatus k ≡ true → eqb (decimalValue k) 0 ≡ false → same d k ≡ true → not (eqb (statusNumber d) 0) ≡ isStatus d
-    one k h z e = rw (same-eq d k e, h, z)
+    one k h z e = rw (same-equal d k e, h, z)
 
     go : (a : Bool) → same d (octets "200") ≡ a → (b : Bool) → same d (octets "301") ≡ b → (c : Bool) → same d (octets "302") ≡ c
         → (k : Bool) → same d (octets "307") ≡ k → not (eqb (statusNumber d) 0) ≡ isStatus d

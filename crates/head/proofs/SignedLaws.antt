@@ -11,7 +11,7 @@ use Rattle.stream.specs.Lines.{Field}
 use Rattle.stream.specs.Signatures.{injectionScan, isInjection, bsigsScan, isBsigs, sig0Scan, namesText, isSig0, splitNames, isNameList, injectionName, bsigsName, sig0Name}
 use Rattle.stream.specs.Template.{Scanned}
 use Rattle.stream.proofs.Truth.{left-holds, right-holds}
-use Rattle.fields.specs.Table.{partOf}
+use Rattle.text.specs.Place.{partOf}
 use Rattle.params.specs.BlockSigs.{bsigsOf}
 use Rattle.params.specs.HeadSig.{ReadsSig0}
 use Rattle.params.specs.Injection.{injectionOf}
@@ -40,7 +40,6 @@ module _ (text : List ℕ) (fs : List Field) (s : Sig0) (x : ReadsSig0 text (sig
   scanned = sig0Scan (valueOf sig0Name fs)
 
   list-is : isSig0 scanned ≡ true → list ≡ namesText scanned
-  unfolding partOf
   list-is g = e ∙ sig0-names x g
 
   sig0-kept : s .good && (r .good && isNameList fs (namesIn list (r .names))) ≡ isSig0 scanned && isNameList fs (splitNames (namesText scanned))

@@ -16,8 +16,10 @@ use Rattle.stream.specs.Lines.{Field, endsWith}
 use Rattle.stream.specs.Ring.{Ring}
 use Rattle.stream.specs.Rule.{Rule, firstBroken}
 use Rattle.stream.specs.Signing.{signedFields}
-use Rattle.text.proofs.SameLaws.{same-eq, both-false}
-use Rattle.fields.specs.Table.{partOf, fieldsIn}
+use Rattle.stream.proofs.Truth.{same-equal}
+use Rattle.text.proofs.SameLaws.{both-false}
+use Rattle.text.specs.Place.{partOf}
+use Rattle.fields.specs.Table.{fieldsIn}
 use Rattle.params.specs.NameList.{namesIn}
 use Rattle.head.specs.Handing.{signedValue, handedValue}
 use Rattle.head.specs.Reading.{Reads}
@@ -27,7 +29,7 @@ use Rattle.head.proofs.ContentLaws.{names-there}
 -- names that are the same find the same value
 same-as : (m n k : List ℕ) → sameName m n ≡ true → sameName n k ≡ sameName m k
 unfolding sameName
-same-as m n k h = rw (same-eq (lowered m) (lowered n) h)
+same-as m n k h = rw (same-equal (lowered m) (lowered n) h)
 
 abbrev firstOr : Field → Bool → List ℕ → List ℕ
 firstOr f t others = elim t [ true ↦ f .value | false ↦ others ]

@@ -13,6 +13,7 @@ use Rattle.stream.specs.Bytes.{isDigit, isQuoted}
 use Rattle.stream.specs.Numbers.{isDecimal}
 use Rattle.stream.specs.Signatures.{isSig0}
 use Rattle.stream.specs.Template.{Part, text, bytes, gap, Scanned, parts, unlike, scan, startsWith}
+use Rattle.text.specs.Place.{partOf}
 use Rattle.text.proofs.SameLaws.{both-false}
 use Rattle.text.proofs.ScanLaws.{scan-text, scan-unlike, scan-end, scan-over}
 use Rattle.params.specs.HeadSig.{headSigOf, headSigIn, ReadsSig0, noSig0}
@@ -33,7 +34,7 @@ abbrev pub createdParts : List Part
 createdParts = text (octets "created=") ∷ bytes isDigit ∷ text (octets ",") ∷ gap ∷ nameParts
 
 sig0-none : (value : List ℕ) (s : Scanned) → isSig0 s ≡ false → ReadsSig0 value s noSig0
-unfolding headSigOf headSigIn
+unfolding headSigOf headSigIn partOf
 sig0-none value s e =
     record {
       meaning = rw e;

@@ -15,7 +15,7 @@ use Rattle.stream.specs.Template.{run}
 use Rattle.text.specs.declared.spans.Span.{Span}
 use Rattle.text.proofs.RunLaws.{run-cons, run-le}
 use Rattle.params.specs.NameList.{isNameByte, noSpan, namesFrom, namesIn, nameList, nameListOf, SpansWithin}
-use Rattle.params.specs.Places.{partOf}
+use Rattle.text.specs.Place.{partOf}
 use Rattle.params.proofs.SpanLaws.{names-length, names-more, within-set}
 
 -- ---- the first name of a text: n bytes, and what comes after the space
@@ -61,9 +61,11 @@ module _ (l : List ℕ) (start end : ℕ) (f : end ≡ start + nameLength (drop 
   name-within h = omega (arith, run-le isNameByte (drop start l), length-drop start l)
 
   name-last : length l ≤ end → splitNames (drop start l) ≡ partOf l start end ∷ []
+  unfolding partOf
   name-last h = rw (f, add-sub-cancel-left) (split-last (drop start l) (omega (arith, length-drop start l)))
 
   name-more : end < length l → splitNames (drop start l) ≡ partOf l start end ∷ splitNames (drop (end + 1) l)
+  unfolding partOf
   name-more h =
       let n = nameLength (drop start l) in
       let e : start + (n + 1) ≡ start + n + 1 = omega arith in

@@ -11,7 +11,7 @@ use Rattle.text.proofs.RunLaws.{run-le}
 use Rattle.text.proofs.SameLaws.{starts-within}
 use Rattle.text.proofs.ScanLaws.{scan-text, scan-unlike, scan-bytes-to, scan-gap-to, scan-end, scan-over}
 use Rattle.params.specs.Parts.{Inside, onward, Reads, GoesOn}
-use Rattle.params.specs.Places.{partOf}
+use Rattle.text.specs.Place.{partOf}
 use Rattle.params.specs.declared.parts.Run.{Run}
 
 abbrev pub noRun : Run
@@ -33,6 +33,7 @@ module _ (value : List ℕ) (at : ℕ) (t : List ℕ) where
 
   pub run-there : at ≤ length value → startsWith t (drop at value) ≡ true → (p : ℕ → Bool) (end : ℕ) → end ≡ start + length (run p (drop start value))
       → Reads (text t ∷ bytes p ∷ []) value at (record { good = true; start = start; end = end; next = end })
+  unfolding partOf
   run-there h e p end f =
       let w = run-within h e p end f in
       record {

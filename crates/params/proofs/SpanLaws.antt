@@ -1,51 +1,19 @@
--- The bytes of a span, and the names of some spans. Assumes nothing.
+-- The names of some spans. Assumes nothing.
 use mathlib.Core.Bool.{Bool, true, false, _||_}
 use mathlib.Core.List.{List, [], _∷_, _++_}
-use mathlib.Core.Path.{_≡_, refl, sym, ap, _∙_}
+use mathlib.Core.Path.{_≡_, refl, ap, _∙_}
 use Prim.Native.Nat.{ℕ, zero, suc, _+_, _-_, _≤_, _<_, min}
 use native.Mathlib.Nat.{sub-zero}
 use native.Mathlib.Omega.{arith}
-use borrow.Author.Tests.{eqb-true, eqb-false, leb-true, leb-false}
-use lib.Dec.{eqb, leb}
-use lib.ListN.{length, getD, set, drop, length-take, length-drop}
-use lib.Seq.{take-all, getD-set-same, getD-set-other}
+use borrow.Author.Tests.{eqb-true, eqb-false}
+use lib.Dec.{eqb}
+use lib.ListN.{length, getD, set}
+use lib.Seq.{getD-set-same, getD-set-other}
 use Rattle.stream.specs.Bytes.{sameName}
 use Rattle.stream.specs.Fields.{among, isDoubled}
 use Rattle.text.specs.declared.spans.Span.{Span}
 use Rattle.params.specs.NameList.{spanBytes, noSpan, namesFrom, namesIn, SpansWithin}
-use Rattle.params.specs.Places.{partOf}
 use Rattle.params.specs.declared.names.Names.{Names}
-
--- ---- a span clipped to the text
-
-none-of : (l : List ℕ) → length l ≡ 0 → l ≡ []
-none-of [] e = refl
-none-of (b ∷ l) e = absurd (omega arith)
-
-module _ (l : List ℕ) (start end e s : ℕ) (p : e ≡ min end (length l)) (q : s ≡ min start e) where
-  long : length (partOf l start end) ≡ min (end - start) (length l - start)
-  long = length-take (end - start) (drop start l) ∙ ap (min (end - start)) (length-drop start l)
-
-  pub clipped : partOf l s e ≡ partOf l start end
-  clipped = go (leb e start) refl
-    where
-      go : (t : Bool) → leb e start ≡ t → partOf l s e ≡ partOf l start end
-      go true k =
-          let f = leb-true e start k in
-          let z : e - s ≡ 0 = omega arith in
-          rw z (sym (none-of (partOf l start end) (omega (arith, long))))
-      go false k =
-          let f = leb-false e start k in
-          let z : s ≡ start = omega arith in
-          rw z (by (leb end (length l)) refl)
-        where
-          by : (t : Bool) → leb end (length l) ≡ t → partOf l start e ≡ partOf l start end
-          by true h =
-              let y : e ≡ end = omega (arith, leb-true end (length l) h) in
-              rw y
-          by false h =
-              let y = leb-false end (length l) h in
-              take-all (e - start) (drop start l) (omega (arith, length-drop start l)) ∙ sym (take-all (end - start) (drop start l) (omega (arith, length-drop start l)))
 
 -- ---- names from span i on, of n
 

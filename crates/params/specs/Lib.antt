@@ -1,4 +1,3 @@
-pub mod Places
 pub mod Parts
 pub mod Injection
 pub mod BlockSigs

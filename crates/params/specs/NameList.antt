@@ -9,7 +9,7 @@ use Rattle.octets.specs.Choice.{pick}
 use Rattle.stream.specs.Limits.{nameLimit}
 use Rattle.stream.specs.Signatures.{splitNames}
 use Rattle.text.specs.declared.spans.Span.{Span}
-use Rattle.params.specs.Places.{partOf}
+use Rattle.text.specs.Place.{partOf}
 use Rattle.params.specs.declared.names.Names.{Names}
 use Rattle.params.specs.declared.names.NamesRead.{NamesRead}
 

@@ -14,7 +14,6 @@ pub use limits::NAME_LIMIT;
 pub use names::Names;
 pub use names::NamesRead;
 pub use names::is_doubled;
-pub use names::name_at;
 pub use names::read_names;
 pub use sig0::Sig0;
 pub use sig0::read_sig0;

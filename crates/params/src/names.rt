@@ -2,7 +2,7 @@
 use crate::limits;
 use text::Span;
 ghost use mathlib.Core.Path.{_≡_};
-ghost use Prim.Native.Nat.{_+_, min};
+ghost use Prim.Native.Nat.{_+_};
 ghost use lib.ListN.{drop, length};
 ghost use Rattle.stream.specs.Bytes.{sameName};
 ghost use Rattle.stream.specs.Fields.{isDoubled};
@@ -63,32 +63,19 @@ fn name_end(text: &[u8], from: usize) -> usize
     i
 }
 
-fn least(a: usize, b: usize) -> usize
-    ensures { λ r. ⌜ r ≡ min a b ⌝ }
-{
-    if a < b { a } else { b }
-}
-
-// The bytes of a span, as far as the text has any.
-pub fn name_at(text: &[u8], span: Span) -> &[u8]
-    ensures { λ r. ⌜ now r ≡ spanBytes (now (text .entry)) span ⌝ }
-{
-    let end = least(span.end, text.len());
-    let start = least(span.start, end);
-    &text[start..end]
-}
-
 fn same_names(text: &[u8], a: Span, b: Span) -> bool
     ensures { λ r. ⌜ r ≡ sameName (spanBytes (now (text .entry)) a) (spanBytes (now (text .entry)) b) ⌝ }
 {
-    text::same_name(name_at(text, a), name_at(text, b))
+    let name = text::part(text, a.start, a.end);
+    let other = text::part(text, b.start, b.end);
+    text::same_name(name, other)
 }
 
 // Every pair of names is compared, up to the first that are the same.
 pub fn is_doubled(text: &[u8], n: Names) -> bool
     ensures { λ r. ⌜ r ≡ isDoubled (namesIn (now (text .entry)) n) ⌝ }
 {
-    let count = least(n.count, limits::NAME_LIMIT);
+    let count = text::least(n.count, limits::NAME_LIMIT);
     let mut i = 0;
     'pairs: while i < count {
         let mut j = i + 1;

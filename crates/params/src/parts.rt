@@ -78,10 +78,7 @@ pub fn key_part(value: &[u8]) -> Run
 
 // The bytes of a run.
 pub(crate) fn bytes_of(value: &[u8], run: Run) -> &[u8]
-    requires { ⌜ Inside (now value) run ⌝ }
     ensures { λ r. ⌜ now r ≡ runBytes (now (value .entry)) run ⌝ }
 {
-    let start = run.start;
-    let end = run.end;
-    &value[start..end]
+    text::part(value, run.start, run.end)
 }

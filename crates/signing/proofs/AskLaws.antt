@@ -1,12 +1,15 @@
 -- The question of a head that breaks no rule. Assumes nothing.
-use mathlib.Core.List.{List}
+use mathlib.Core.List.{List, _++_}
 use mathlib.Core.Path.{_≡_, ap, _∙_}
 use Prim.Native.Nat.{ℕ, _≤_}
-use native.Mathlib.Nat.{zero-add, le-trans}
-use lib.ListN.{length}
+use native.Mathlib.Nat.{le-trans}
+use lib.ListN.{length, drop}
 use Rattle.stream.specs.Head.{headOf, blockSize, injectionId, headSignature, signedOf, signingString}
 use Rattle.stream.proofs.SigningSize.{signing-fits′}
-use Rattle.fields.specs.Table.{partOf, fieldsIn}
+use Rattle.text.specs.Place.{partOf}
+use Rattle.text.specs.Writing.{Placed, placed, wrote}
+use Rattle.text.proofs.WritingLaws.{wrote-front}
+use Rattle.fields.specs.Table.{fieldsIn}
 use Rattle.params.specs.NameList.{namesIn}
 use Rattle.params.specs.declared.bsigs.Bsigs.{Bsigs}
 use Rattle.params.specs.declared.injection.Injection.{Injection}
@@ -15,9 +18,8 @@ use Rattle.head.specs.Reading.{Reads}
 use Rattle.head.specs.declared.whole.HeadRead.{HeadRead}
 use Rattle.head.proofs.ContentLaws.{status-good, lines-good, injection-good, bsigs-good, sig0-good, names-good, digits-there, created-there, names-there}
 use Rattle.signing.specs.Judgement.{judged, asked}
-use Rattle.signing.specs.Writing.{placed, over, wrote, stringOf}
+use Rattle.signing.specs.Writing.{stringOf}
 use Rattle.signing.specs.declared.judging.HeadAnswer.the-variants.{Asks}
-use Rattle.signing.proofs.PlacedLaws.{next-is, bytes-are}
 
 module _ (text : List ℕ) (r : HeadRead) (x : Reads text r) (z : r .fault ≡ 0) where
   -- the texts that the string is made of
@@ -30,18 +32,13 @@ module _ (text : List ℕ) (r : HeadRead) (x : Reads text r) (z : r .fault ≡ 0
     unfolding stringOf signingString signedOf
     string-there = rw (names-there text r x z list l, x .says z .fields, d ∙ digits-there text r x z, s ∙ created-there text r x z)
 
-    string-fits : length string ≤ length text
-    string-fits =
-        rw string-there
-        (signing-fits′ text (status-good text r x z) (lines-good text r x z) (sig0-good text r x z) (names-good text r x z))
-
-    pub string-room : (question : List ℕ) → length text ≤ length question → length string ≤ length question
-    string-room question h = le-trans string-fits h
+    string-fits : length (signingString (headOf text)) ≤ length text
+    string-fits = signing-fits′ text (status-good text r x z) (lines-good text r x z) (sig0-good text r x z) (names-good text r x z)
 
     -- the length of the string and the buffer, after it was written
-    module _ (question : List ℕ) (n : ℕ) (b : List ℕ) (e : placed n b ≡ wrote question 0 string) where
-      written-length : n ≡ length (signingString (headOf text))
-      written-length = next-is question 0 string n b e ∙ zero-add (length string) ∙ ap length string-there
+    module _ (question : List ℕ) (h : length text ≤ length question) (n : ℕ) (b : List ℕ) (e : placed n b ≡ wrote question 0 string) where
+      at-front : placed n b ≡ placed (length (signingString (headOf text))) (signingString (headOf text) ++ drop (length (signingString (headOf text))) question)
+      at-front = e ∙ ap (wrote question 0) string-there ∙ wrote-front question (signingString (headOf text)) (le-trans string-fits h)
 
       pub asked-is : (key : ℕ)
           → judged
@@ -52,7 +49,7 @@ module _ (text : List ℕ) (r : HeadRead) (x : Reads text r) (z : r .fault ≡ 0
           })
           b
           ≡ asked key (headOf text) question
-      unfolding asked over blockSize injectionId headSignature
+      unfolding asked blockSize injectionId headSignature
       asked-is key =
           let i = x .says z .injection ∙ injection-is _ (injection-good text r x z) in
           let k = x .says z .bsigs ∙ bsigs-is _ (bsigs-good text r x z) in
@@ -62,8 +59,6 @@ module _ (text : List ℕ) (r : HeadRead) (x : Reads text r) (z : r .fault ≡ 0
             ap (λ (q : Injection). q .«id_length») i,
             ap (λ (q : Injection). q .id) i,
             sig0-signature (x .says z .sig0) (sig0-good text r x z),
-            written-length,
-            bytes-are question 0 string n b e,
-            string-there,
-            zero-add (length (signingString (headOf text))),
+            ap (λ (p : Placed). p .next) at-front,
+            ap (λ (p : Placed). p .bytes) at-front,
           )

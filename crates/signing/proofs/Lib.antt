@@ -1,4 +1,3 @@
-pub mod PlacedLaws
 pub mod StringLaws
 pub mod TrustLaws
 pub mod AskLaws

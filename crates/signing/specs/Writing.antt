@@ -1,32 +1,13 @@
--- Texts written one after another into a buffer, and the signing string by its lines. No public contract names these.
--- Assumes nothing.
+-- The signing string by its lines. No public contract names these. Assumes nothing.
 use mathlib.Core.List.{List, [], _∷_, _++_}
-use Prim.Native.Nat.{ℕ, _+_}
-use lib.ListN.{length, take, drop}
+use Prim.Native.Nat.{ℕ}
 use Rattle.fields.specs.Table.{fieldsIn}
 use Rattle.fields.specs.declared.table.Fields.{Fields}
 use Rattle.params.specs.NameList.{namesIn}
 use Rattle.params.specs.declared.names.Names.{Names}
 use Rattle.stream.specs.Lines.{Field}
-use Rattle.stream.specs.Signatures.{listedFields, responseStatus, created}
+use Rattle.stream.specs.Signatures.{listedFields, responseStatusName, createdName}
 use Rattle.stream.specs.Signing.{signedFields, signingLine, joined}
-
--- where the next text goes, and the whole buffer
-pub record Placed : Type 0 where
-  pub next : ℕ
-  pub bytes : List ℕ
-
-abbrev pub placed : ℕ → List ℕ → Placed
-placed next bytes = record { next = next; bytes = bytes }
-
--- l from place at on, in place of as many bytes of the buffer
-unfoldable pub over : List ℕ → ℕ → List ℕ → List ℕ
-over out at l = take at out ++ l ++ drop (at + length l) out
-
-unfoldable pub wrote : List ℕ → ℕ → List ℕ → Placed
-wrote out at l = placed (at + length l) (over out at l)
-
--- ---- the signing string
 
 abbrev pub lineOf : List ℕ → List ℕ → List ℕ
 lineOf name value = signingLine (record { name = name; value = value })
@@ -40,8 +21,8 @@ following (f ∷ fs) = 10 ∷ (signingLine f ++ following fs)
 unfoldable pub stringOf : List Field → List (List ℕ) → List ℕ → List ℕ → List ℕ
 stringOf fs ns digits seconds =
     joined
-    (record { name = responseStatus; value = digits }
-    ∷ record { name = created; value = seconds }
+    (record { name = responseStatusName; value = digits }
+    ∷ record { name = createdName; value = seconds }
     ∷ signedFields fs (listedFields ns))
 
 -- ---- the same of the table and the spans that the code has

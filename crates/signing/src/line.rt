@@ -1,25 +1,35 @@
-// One line of the signing string: a name in lower case, colon, space, value.
-use crate::put;
+// One line of the signing string: a name in lower case, colon, space, value. Each function writes as far as there is room and
+// returns the place after what it wrote.
 ghost use mathlib.Core.List.{_∷_};
 ghost use mathlib.Core.Path.{_≡_};
-ghost use Prim.Native.Nat.{_+_, _≤_};
-ghost use lib.ListN.{length};
-ghost use Rattle.signing.specs.Writing.{lineOf, placed, wrote};
+ghost use Rattle.stream.specs.Bytes.{lowered};
+ghost use Rattle.text.specs.Writing.{placed, wrote};
+ghost use Rattle.signing.specs.Writing.{lineOf};
+
+fn put_lower(out: &mut [u8], at: usize, bytes: &[u8]) -> usize
+    ensures { λ r. ⌜ placed r (now (out .exit)) ≡ wrote (now (out .entry)) at (lowered (now (bytes .entry))) ⌝ }
+{
+    let end = text::least(bytes.len(), text::less(out.len(), at));
+    let mut i = 0;
+    while i < end {
+        out[at + i] = text::lower(bytes[i]);
+        i += 1;
+    }
+    at + i
+}
 
 pub(crate) fn put_line(out: &mut [u8], at: usize, name: &[u8], value: &[u8]) -> usize
-    requires { ⌜ at + (length (now name) + length (now value) + 2) ≤ length (now out) ⌝ }
     ensures { λ r. ⌜ placed r (now (out .exit)) ≡ wrote (now (out .entry)) at (lineOf (now (name .entry)) (now (value .entry))) ⌝ }
 {
-    let colon = put::put_lower(out, at, name);
-    let start = put::put(out, colon, b": ");
-    put::put(out, start, value)
+    let colon = put_lower(out, at, name);
+    let start = text::put(out, colon, b": ");
+    text::put(out, start, value)
 }
 
 // The same with a line feed in front.
 pub(crate) fn put_next(out: &mut [u8], at: usize, name: &[u8], value: &[u8]) -> usize
-    requires { ⌜ at + (length (now name) + length (now value) + 3) ≤ length (now out) ⌝ }
     ensures { λ r. ⌜ placed r (now (out .exit)) ≡ wrote (now (out .entry)) at (10 ∷ lineOf (now (name .entry)) (now (value .entry))) ⌝ }
 {
-    let start = put::put(out, at, b"\n");
+    let start = text::put(out, at, b"\n");
     put_line(out, start, name, value)
 }

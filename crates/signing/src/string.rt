@@ -1,15 +1,14 @@
-// The signing string: two lines that are no fields, then a line for each listed field.
+// The signing string: two lines that are no fields, then a line for each listed field. Each function writes as far as there is
+// room and returns the place after what it wrote.
 use crate::line;
 use fields::Fields;
 use params::Names;
 ghost use mathlib.Core.Path.{_≡_};
-ghost use Prim.Native.Nat.{_+_, _≤_};
-ghost use lib.ListN.{length};
-ghost use Rattle.signing.specs.Writing.{linesIn, placed, stringIn, wrote};
+ghost use Rattle.text.specs.Writing.{placed, wrote};
+ghost use Rattle.signing.specs.Writing.{linesIn, stringIn};
 
 // The fields that the list names after its first two, each on a line of its own.
 fn put_fields(text: &[u8], f: Fields, list: &[u8], n: Names, out: &mut [u8], from: usize) -> usize
-    requires { ⌜ from + length (linesIn (now text) f (now list) n) ≤ length (now out) ⌝ }
     ensures { λ r. ⌜ placed r (now (out .exit)) ≡ wrote (now (out .entry)) from (linesIn (now (text .entry)) f (now (list .entry)) n) ⌝ }
 {
     let end = head::count(n);
@@ -32,7 +31,6 @@ pub(crate) fn put_string(
     created: &[u8],
     out: &mut [u8],
 ) -> usize
-    requires { ⌜ length (stringIn (now text) f (now list) n (now digits) (now created)) ≤ length (now out) ⌝ }
     ensures { λ r. ⌜ placed r (now (out .exit)) ≡ wrote (now (out .entry)) 0 (stringIn (now (text .entry)) f (now (list .entry)) n (now (digits .entry)) (now (created .entry))) ⌝ }
 {
     let second = line::put_line(out, 0, b"(response-status)", digits);

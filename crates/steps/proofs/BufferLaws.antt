@@ -3,7 +3,7 @@ use mathlib.Core.List.{List, [], _∷_, _++_}
 use mathlib.Core.Path.{_≡_, ap}
 use native.Mathlib.Nat.{zero-min, min-zero, suc-min-suc}
 use native.Mathlib.Omega.{arith}
-use Prim.Native.Nat.{ℕ, zero, suc, _+_, _-_, _<_, min}
+use Prim.Native.Nat.{ℕ, zero, suc, min}
 use lib.ListN.{length, drop, take, replicate, length-append, length-replicate, length-drop}
 use Rattle.steps.specs.Desk.{cleared}
 
@@ -30,7 +30,3 @@ cleared-none l = rw zero-min
 pub length-cleared : (n : ℕ) (l : List ℕ) → length (cleared n l) ≡ length l
 unfolding cleared
 length-cleared n l = rw (length-append, length-replicate, length-drop) (omega arith)
-
--- the measure of a loop up to `end`
-pub falls : (end i : ℕ) → i < end → end - (i + 1) < end - i
-falls end i h = omega arith

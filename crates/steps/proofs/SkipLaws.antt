@@ -3,31 +3,43 @@ use denote.Enum.Declared.{tagOf}
 use mathlib.Core.List.{List, [], _∷_}
 use mathlib.Core.Path.{_≡_, refl, sym, ap, _∙_}
 use native.Mathlib.Omega.{arith}
-use Prim.Native.Nat.{ℕ, _+_, _-_, _<_}
-use lib.ListN.{length}
-use lib.Seq.{paste}
+use native.Mathlib.Nat.{add-sub-cancel-left}
+use Prim.Native.Nat.{ℕ, _+_, _-_, _≤_, min}
+use lib.ListN.{length, take, length-take}
+use lib.Seq.{paste, take-take}
 use types.Run.{OneOf, miss}
+use Rattle.text.specs.Writing.{placed, wrote}
+use Rattle.text.proofs.WritingLaws.{next-is, bytes-are}
 use Rattle.steps.specs.Desk.{inPhase}
-use Rattle.steps.specs.Skip.{Copied, copiedTo, copied, room, Skip, skipTo, skippedData, skippedAt}
+use Rattle.steps.specs.Skip.{room, Skip, skipTo, skippedData, skippedAt}
 use Rattle.steps.specs.declared.state.Phase.{Phase}
 use Rattle.steps.proofs.state.Phase.{the-type}
 use Rattle.steps.specs.declared.state.Phase.the-variants as P
 use Rattle.steps.specs.declared.state.Reader.{Reader}
 
-module _ (have most taken : ℕ) (b b' xs : List ℕ) (e : copiedTo taken b' ≡ copied b have xs most) where
-  pub taken-is : taken ≡ room b have xs most
-  taken-is = ap (λ (c : Copied). c .count) e
+min-assoc : (k m n : ℕ) → min (min k m) n ≡ min k (min m n)
+min-assoc k m n = omega arith
 
-  -- the place after the run is within the buffer, or where it was
-  pub place-fits : (m : ℕ) → have < m → length b < m → have + taken < m
-  place-fits m h k = rw taken-is (omega arith)
+-- the run is written from the place `have` on: `end` bytes of xs, as far as there is room
+module _ (have most end next : ℕ) (b b' xs : List ℕ) (f : end ≡ min most (length xs)) (e : placed next b' ≡ wrote b have (take (end - 0) xs)) where
+  long : length (take (end - 0) xs) ≡ min most (length xs)
+  long = omega (arith, length-take (end - 0) xs)
+
+  run-is : min (length (take (end - 0) xs)) (length b - have) ≡ room b have xs most
+  run-is = rw long (min-assoc most (length xs) (length b - have))
+
+  next-from : next ≡ have + room b have xs most
+  next-from = next-is b have (take (end - 0) xs) next b' e ∙ rw run-is
+
+  pub goes-up : have ≤ next
+  goes-up = omega (arith, next-from)
 
   block-is : b' ≡ paste b have xs (room b have xs most)
-  block-is = ap (λ (c : Copied). c .block) e
+  block-is = bytes-are b have (take (end - 0) xs) next b' e ∙ rw (run-is, take-take (room b have xs most) (end - 0) xs (omega arith))
 
-  pub skipped-is : (r : Reader) (size : ℕ) → most ≡ size - have - 1 → skipTo (inPhase r (P.Data (have + taken) size)) taken b' ≡ skippedData have size r b xs
+  pub skipped-is : (r : Reader) (size : ℕ) → most ≡ size - have - 1 → skipTo (inPhase r (P.Data next size)) (next - have) b' ≡ skippedData have size r b xs
   unfolding skippedData
-  skipped-is r size m = rw (block-is, taken-is, m)
+  skipped-is r size m = rw (block-is, next-from, add-sub-cancel-left, m)
 
 module _ (r : Reader) (b xs : List ℕ) where
   pub skipped-at : (p p' : Phase) (s : Skip) → p ≡ p' → s ≡ skippedAt p' r b xs → s ≡ skippedAt p r b xs

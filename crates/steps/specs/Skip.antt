@@ -13,17 +13,6 @@ use Rattle.steps.specs.declared.state.Reader.{Reader}
 abbrev pub room : List ℕ → ℕ → List ℕ → ℕ → ℕ
 room b at xs most = min most (min (length xs) (length b - at))
 
--- a count, and the buffer after it
-pub record Copied : Type 0 where
-  pub count : ℕ
-  pub block : List ℕ
-
-abbrev pub copiedTo : ℕ → List ℕ → Copied
-copiedTo n b = record { count = n; block = b }
-
-abbrev pub copied : List ℕ → ℕ → List ℕ → ℕ → Copied
-copied b at xs most = copiedTo (room b at xs most) (paste b at xs (room b at xs most))
-
 -- the reader after the run, how many bytes it has, and the block buffer after it
 pub record Skip : Type 0 where
   pub reader : Reader

@@ -1,5 +1,5 @@
 // What the reader keeps between calls, and what one byte of the stream does to it after the head.
-mod buffers; // bytes cleared and copied in a lent buffer
+mod buffers; // bytes cleared in a lent buffer
 mod data; // a block's data, and the CR LF after it
 mod lines; // the first chunk line, and what all lines share
 mod next_line; // the line after a block, with its signature

@@ -1,5 +1,4 @@
 // The chunk line after a block: it carries the block's signature, and a good one leads to the question about the block.
-use crate::buffers::least;
 use crate::lines::LINE_LIMIT;
 use crate::lines::is_whole_line;
 use crate::state::Phase;
@@ -57,7 +56,7 @@ fn ask(
 ) -> Stepped
     ensures { λ s. ⌜ ((h : List ℕ) → nextOf s h (now (block .entry)) (now (question .exit)) ≡ asked (desk r h (now (block .entry)) (now (question .entry))) size next signature) ⌝ }
 {
-    let end = least(size, block.len());
+    let end = text::least(size, block.len());
     let number = r.number;
     let before = r.hash;
     let hash = chunk::chain(number, before, &block[0..end]);

@@ -1,6 +1,4 @@
 // A run of a block's data taken at once, up to but not with the block's last byte.
-use crate::buffers::copy_to;
-use crate::buffers::less;
 use crate::state::Phase;
 use crate::state::Reader;
 use crate::state::in_phase;
@@ -16,11 +14,14 @@ pub struct Passed {
 fn skip_data(r: Reader, block: &mut [u8], have: usize, size: usize, rest: &[u8]) -> Passed
     ensures { λ s. ⌜ passedOf s (now (block .exit)) ≡ skippedData have size r (now (block .entry)) (now (rest .entry)) ⌝ }
 {
-    let most = less(less(size, have), 1);
-    let taken = copy_to(block, have, rest, most);
-    let next = have + taken;
+    let most = text::less(text::less(size, have), 1);
+    let end = text::least(most, rest.len());
+    let next = text::put(block, have, &rest[0..end]);
     let reader = in_phase(r, Phase::Data { have: next, size });
-    Passed { reader, taken }
+    Passed {
+        reader,
+        taken: next - have,
+    }
 }
 
 // Takes the bytes of `rest` that are data of the block under way and not its last; in another phase, none.

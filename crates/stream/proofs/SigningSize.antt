@@ -15,7 +15,7 @@ use Rattle.stream.specs.Head.{headOf, headWith, statusDigits, listedName
 use Rattle.stream.specs.Limits.{headLimit}
 use Rattle.stream.specs.Lines.{Field, areFieldLines, statusScan, isStatusLine, statusOf}
 use Rattle.stream.specs.Ring.{Ring}
-use Rattle.stream.specs.Signatures.{sig0Scan, isSig0, listedFields, areFields, isNameList, responseStatus, created, sig0Name}
+use Rattle.stream.specs.Signatures.{sig0Scan, isSig0, listedFields, areFields, isNameList, responseStatusName, createdName, sig0Name}
 use Rattle.stream.specs.Signing.{signingLine, joined}
 use Rattle.stream.specs.Template.{isLike, kept}
 use Rattle.stream.proofs.LineSizes.{fieldSize, field-lines-size, fields-size}
@@ -89,8 +89,8 @@ signing-fits′ l status lines sig0 names =
     omega (
       arith,
       joined-size
-          (record { name = responseStatus; value = statusDigits (headOf l) }
-          ∷ record { name = created; value = kept 1 (headOf l .sig0) }
+          (record { name = responseStatusName; value = statusDigits (headOf l) }
+          ∷ record { name = createdName; value = kept 1 (headOf l .sig0) }
           ∷ signedOf (headOf l)),
       status-size (headOf l .statusLine) status,
       signed-size fs ns (x .present),

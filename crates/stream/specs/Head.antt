@@ -15,7 +15,7 @@ use Rattle.stream.specs.Lines.{crlf, endsWith, textLines, Field, areFiel
 use Rattle.stream.specs.Numbers.{decimalValue}
 use Rattle.stream.specs.Ring.{Ring, found, isFound}
 use Rattle.stream.specs.Rule.{Rule, rule, firstBroken}
-use Rattle.stream.specs.Signatures.{injectionScan, idText, timeText, isInjection, bsigsScan, keyText, blockSizeText, isBsigs, sig0Scan, createdText, namesText, headSignatureText, isSig0, splitNames, listedFields, isNameList, responseStatus, created, versionName, uriName, injectionName, bsigsName, sig0Name}
+use Rattle.stream.specs.Signatures.{injectionScan, idText, timeText, isInjection, bsigsScan, keyText, blockSizeText, isBsigs, sig0Scan, createdText, namesText, headSignatureText, isSig0, splitNames, listedFields, isNameList, responseStatusName, createdName, versionName, uriName, injectionName, bsigsName, sig0Name}
 use Rattle.stream.specs.Signing.{signedFields, joined}
 use Rattle.stream.specs.Template.{Scanned, nth}
 
@@ -88,8 +88,8 @@ signedOf h = signedFields (h .fields) (listedFields (listedNames h))
 unfoldable pub signingString : Head → List ℕ
 signingString h =
     joined
-    (record { name = responseStatus; value = statusDigits h }
-    ∷ record { name = created; value = createdText (h .sig0) }
+    (record { name = responseStatusName; value = statusDigits h }
+    ∷ record { name = createdName; value = createdText (h .sig0) }
     ∷ signedOf h)
 
 -- the number of the record that trusts the key of `X-Ouinet-Sig0` at the time `ts`

@@ -88,11 +88,11 @@ unfoldable pub splitNames : List ℕ → List (List ℕ)
 splitNames [] = [] ∷ []
 splitNames (b ∷ l) = elim (eqb b 32) [ true ↦ [] ∷ splitNames l | false ↦ inFront b (splitNames l) ]
 
-abbrev pub responseStatus : List ℕ
-responseStatus = octets "(response-status)"
+abbrev pub responseStatusName : List ℕ
+responseStatusName = octets "(response-status)"
 
-abbrev pub created : List ℕ
-created = octets "(created)"
+abbrev pub createdName : List ℕ
+createdName = octets "(created)"
 
 abbrev pub versionName : List ℕ
 versionName = octets "x-ouinet-version"
@@ -124,7 +124,7 @@ unfoldable pub isNameList : List Field → List (List ℕ) → Bool
 isNameList fs ns =
     leb (length ns) nameLimit
     && (not (isDoubled ns)
-    && (sameName (nth 0 ns) responseStatus
-    && (sameName (nth 1 ns) created
+    && (sameName (nth 0 ns) responseStatusName
+    && (sameName (nth 1 ns) createdName
     && (areFields fs (listedFields ns)
     && (among versionName ns && (among uriName ns && (among injectionName ns && not (among sig0Name ns))))))))

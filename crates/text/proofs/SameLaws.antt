@@ -1,6 +1,6 @@
--- Byte strings compared: `same` is equality, what stands at a place of a text, and two names side by side. Assumes nothing.
+-- Byte strings compared: what stands at a place of a text, and two names side by side. Assumes nothing.
 use mathlib.Core.Path.{_≡_, refl, sym, ap, _∙_}
-use mathlib.Core.Bool.{Bool, true, false, _&&_, false≢true}
+use mathlib.Core.Bool.{Bool, true, false, _&&_}
 use mathlib.Core.List.{List, [], _∷_, _++_}
 use Prim.Native.Nat.{ℕ, suc, _+_, _≤_, _<_}
 use native.Mathlib.Numerals.{add-one}
@@ -11,16 +11,9 @@ use lib.ListN.{length, getD, take, drop, drop-of-length-le, length-drop, length-
 use lib.Seq.{drop-cons, take-all}
 use Rattle.stream.specs.Bytes.{same, lower, lowered, sameName}
 use Rattle.stream.specs.Template.{startsWith}
+use Rattle.stream.proofs.Truth.{same-equal}
 
 -- ---- tests joined
-
-both-left : (a b : Bool) → a && b ≡ true → a ≡ true
-both-left true b e = refl
-both-left false b e = e
-
-both-right : (a b : Bool) → a && b ≡ true → b ≡ true
-both-right true b e = e
-both-right false b e = absurd (false≢true e)
 
 both-assoc : (a b c : Bool) → a && (b && c) ≡ (a && b) && c
 both-assoc true b c = refl
@@ -41,19 +34,7 @@ eqb-sym a b = go (eqb a b) refl
     go true e = e ∙ sym (eq-eqb b a (sym (eqb-true a b e)))
     go false e = e ∙ sym (ne-eqb b a (λ q. eqb-false a b e (sym q)))
 
--- ---- `same` is equality
-
-pub same-refl : (l : List ℕ) → same l l ≡ true
-unfolding same
-same-refl [] = refl
-same-refl (x ∷ xs) = rw (eq-eqb x x refl, same-refl xs)
-
-pub same-eq : (a b : List ℕ) → same a b ≡ true → a ≡ b
-unfolding same
-same-eq [] [] e = refl
-same-eq [] (y ∷ ys) e = absurd (false≢true e)
-same-eq (x ∷ xs) [] e = absurd (false≢true e)
-same-eq (x ∷ xs) (y ∷ ys) e = rw (eqb-true x y (both-left (eqb x y) (same xs ys) e), same-eq xs ys (both-right (eqb x y) (same xs ys) e))
+-- ---- the same bytes
 
 pub same-sym : (a b : List ℕ) → same a b ≡ same b a
 unfolding same
@@ -101,7 +82,7 @@ starts-longer t l h = same-length t (take (length t) l) (λ e. omega (arith, len
 -- what starts with t has t in front, and room for it
 pub starts-is : (t l : List ℕ) → startsWith t l ≡ true → take (length t) l ≡ t
 unfolding startsWith
-starts-is t l e = sym (same-eq t (take (length t) l) e)
+starts-is t l e = sym (same-equal t (take (length t) l) e)
 
 pub starts-within : (t s : List ℕ) (i : ℕ) → startsWith t (drop i s) ≡ true → i ≤ length s → i + length t ≤ length s
 starts-within t s i e h =

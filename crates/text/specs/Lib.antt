@@ -1,3 +1,5 @@
 pub mod Class
 pub mod Line
 pub mod Span
+pub mod Place
+pub mod Writing

@@ -1,16 +1,25 @@
 -- Each return by the tests that led to it.
-use mathlib.Core.Path.{_≡_, ap, _∙_}
+use mathlib.Core.Path.{_≡_, refl, ap, _∙_}
 use mathlib.Core.Bool.{true, false}
-use mathlib.Core.List.{List, _++_}
-use Prim.Native.Nat.{ℕ}
+use mathlib.Core.List.{List, _++_, append-nil}
+use Prim.Native.Nat.{ℕ, _≤_}
 use borrow.Author.Needs.{needs}
 use borrow.Author.Tests.{eq-eqb, ne-eqb}
 use denote.Ref.{now}
-use lib.ListN.{length}
+use native.Mathlib.Omega.{arith}
+use lib.ListN.{length, drop-of-length-le}
 use Rattle.hash.specs.Sha512.{sha512}
+use Rattle.text.specs.Writing.{Placed, placed, wrote}
+use Rattle.text.proofs.WritingLaws.{wrote-front}
 use Rattle.hash_export.specs.Export.{made, answered}
 use Rattle.hash_export.proofs.thawrushes_sha512_after.Statement.{statement}
 use Rattle.hash_export.proofs.thawrushes_sha512_after.Tie as tie
+
+-- a text as long as the buffer takes all of it
+fills : (d l b : List ℕ) (n : ℕ) → length l ≡ 64 → length d ≡ 64 → placed n b ≡ wrote d 0 l → b ≡ l
+fills d l b n h k e =
+    let j : length d ≤ length l = omega arith in
+    ap (λ (p : Placed). p .bytes) (e ∙ wrote-front d l (omega arith)) ∙ rw (drop-of-length-le d) (append-nil l)
 
 module _ (b m o : List ℕ) where
   no-start : (length b ≡ 64 → ⊥) → made false o ≡ answered b m o
@@ -33,20 +42,20 @@ returns-2 c =
     let r = e .before .before .before .before .args in
     no-room (now (r .before)) (now (r .message)) (now (r .out)) (e .if1 .left) (c .if2 .taken)
 
-slice-aggregate-copy : tie.Need-slice-aggregate-copy
-slice-aggregate-copy c = search needs
+slice-aggregate-put : tie.Need-slice-aggregate-put
+slice-aggregate-put c = search needs
 
-copy-requires : tie.Need-copy-requires
-copy-requires c κs = search needs
+put-requires : tie.Need-put-requires
+put-requires c κs = search needs
 
 sha512-after-requires : tie.Need-sha512-after-requires
 sha512-after-requires c κs = search needs
 
-slice-aggregate-copy-2 : tie.Need-slice-aggregate-copy-2
-slice-aggregate-copy-2 c = search needs
+slice-aggregate-put-2 : tie.Need-slice-aggregate-put-2
+slice-aggregate-put-2 c = search needs
 
-copy-requires-2 : tie.Need-copy-requires-2
-copy-requires-2 c κs = search needs
+put-requires-2 : tie.Need-put-requires-2
+put-requires-2 c κs = search needs
 
 same-length : tie.Need-same-length
 same-length c = search needs
@@ -61,8 +70,8 @@ returns-3 c =
     let r = e .before .before .before .before .args in
     let b = now (r .before) in
     let m = now (r .message) in
-    whole b m (now (r .out)) (c3 .copy2 .last .0) (e .if1 .left) (f .if2 .left)
-    (c3 .copy2 .ensures ∙ c2 .sha512-after .ensures ∙ ap (λ (l : List ℕ). sha512 (l ++ m)) (c1 .copy .ensures))
+    whole b m (now (r .out)) (c3 .put2 .last .0) (e .if1 .left) (f .if2 .left)
+    (fills _ _ _ _ (search needs) (f .if2 .left) (c3 .put2 .ensures) ∙ c2 .sha512-after .ensures ∙ ap (λ (l : List ℕ). sha512 (l ++ m)) (fills _ _ _ _ (e .if1 .left) refl (c1 .put .ensures)))
 
 pub thawrushes-sha512-after-spec : {M : Type 1} → statement M
 thawrushes-sha512-after-spec =
@@ -70,10 +79,10 @@ thawrushes-sha512-after-spec =
     (tie.spec
     returns
     returns-2
-    slice-aggregate-copy
-    copy-requires
+    slice-aggregate-put
+    put-requires
     sha512-after-requires
-    slice-aggregate-copy-2
-    copy-requires-2
+    slice-aggregate-put-2
+    put-requires-2
     same-length
     returns-3)

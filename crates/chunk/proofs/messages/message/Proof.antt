@@ -71,7 +71,7 @@ returns-2 c =
     let l = e .before in
     let d = l .before .before in
     let s = d .before .before .before in
-    sym (put-in (s .args .offset .0) _ _ (omega (arith, s .good)) (d .write-decimal .ensures) (s .args .t2) (s .args .t5) _ _ (search (needs, s .good)) (search (needs, s .good .1 .1 .1)) (l .least .ensures) _ _ (e .if1 .left) (j .join .ensures))
+    sym (put-in (s .args .offset .0) _ _ (omega (arith, s .good)) (d .write-decimal .ensures) (s .args .t2) (s .args .t5) _ _ (search (needs, s .good)) (search (needs, s .good .1 .1 .1)) (l .least .ensures) _ _ _ (e .if1 .left) (j .join .ensures))
 
 pub message-spec : {M : Type 1} → statement M
 message-spec =

@@ -8,7 +8,8 @@ use denote.Ref.{now}
 use Rattle.stream.specs.Bytes.{sameName}
 use Rattle.stream.specs.Fields.{among, hasField, namesOf, valueOf}
 use Rattle.stream.specs.Lines.{Field}
-use Rattle.fields.specs.Table.{partOf, fieldsFrom, fieldsIn}
+use Rattle.text.specs.Place.{partOf}
+use Rattle.fields.specs.Table.{fieldsFrom, fieldsIn}
 use Rattle.fields.proofs.TableLaws.{namesFrom, all-from, among-hit, among-next, among-out, value-hit, value-next, value-out}
 use Rattle.fields.proofs.lookup.find.Statement.{statement}
 use Rattle.fields.proofs.lookup.find.Tie as tie
@@ -52,7 +53,7 @@ returns c =
     let i = l .before .loop .inv in
     let f = c .clip .ensures in
     record {
-      found = f .found ∙ sym (i .1 ∙ among-hit _ _ _ _ _ (l .loop-test .taken) t);
+      found = sym (i .1 ∙ among-hit _ _ _ _ _ (l .loop-test .taken) t);
       content = f .content ∙ sym (i .2 ∙ value-hit _ _ _ _ _ (l .loop-test .taken) t);
       ordered = f .ordered;
       within = f .within;

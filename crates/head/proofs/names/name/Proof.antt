@@ -27,11 +27,11 @@ mul-span c = search needs
 element-copy-out-span : tie.Need-element-copy-out-span
 element-copy-out-span c = search needs
 
-name-at-requires : tie.Need-name-at-requires
-name-at-requires c κs = search needs
+part-requires : tie.Need-part-requires
+part-requires c κs = search needs
 
 returns-2 : tie.Need-returns-2
-returns-2 c = c .name-at .ensures ∙ sym (name-is _ _ _ (omega arith))
+returns-2 c = c .part .ensures ∙ sym (name-is _ _ _ (omega arith))
 
 pub name-spec : {M : Type 1} → statement M
 name-spec =
@@ -44,5 +44,5 @@ name-spec =
     returns
     mul-span
     element-copy-out-span
-    name-at-requires
+    part-requires
     returns-2)

@@ -3,11 +3,11 @@ use borrow.Author.Needs.{needs}
 use Rattle.params.proofs.names.same_names.Statement.{statement}
 use Rattle.params.proofs.names.same_names.Tie as tie
 
-name-at-requires : tie.Need-name-at-requires
-name-at-requires c κs = search needs
+part-requires : tie.Need-part-requires
+part-requires c κs = search needs
 
-name-at-requires-2 : tie.Need-name-at-requires-2
-name-at-requires-2 c κs = search needs
+part-requires-2 : tie.Need-part-requires-2
+part-requires-2 c κs = search needs
 
 same-name-requires : tie.Need-same-name-requires
 same-name-requires c κs = search needs
@@ -17,4 +17,4 @@ returns c = cc
 
 pub same-names-spec : {M : Type 1} → statement M
 same-names-spec =
-    tie.close (tie.spec name-at-requires name-at-requires-2 same-name-requires returns)
+    tie.close (tie.spec part-requires part-requires-2 same-name-requires returns)

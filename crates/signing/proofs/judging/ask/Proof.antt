@@ -1,6 +1,5 @@
 -- The string has room and is written, and the rest is what was read. Assumes nothing.
-use denote.Ref.{now}
-use Rattle.signing.proofs.AskLaws.{string-room, asked-is}
+use Rattle.signing.proofs.AskLaws.{asked-is}
 use borrow.Author.Needs.{needs}
 use Rattle.signing.proofs.judging.ask.Statement.{statement}
 use Rattle.signing.proofs.judging.ask.Tie as tie
@@ -15,12 +14,7 @@ part-requires-3 : tie.Need-part-requires-3
 part-requires-3 c κs = search needs
 
 put-string-requires : tie.Need-put-string-requires
-put-string-requires c κs =
-    let d = c .before in
-    let s = d .before in
-    let l = s .before in
-    let a = l .before .before .before .before .before .before .before .before .before in
-    string-room _ _ (a .pre .0) (a .pre .1 .0) _ _ _ (l .part .ensures) (s .part2 .ensures) (d .part3 .ensures) (now (a .args .question)) (a .pre .1 .1)
+put-string-requires c κs = search needs
 
 same-length : tie.Need-same-length
 same-length c = search needs
@@ -32,7 +26,7 @@ returns c =
     let s = d .before in
     let l = s .before in
     let a = l .before .before .before .before .before .before .before .before .before in
-    asked-is _ _ (a .pre .0) (a .pre .1 .0) _ _ _ (l .part .ensures) (s .part2 .ensures) (d .part3 .ensures) _ _ _ (p .put-string .ensures) _
+    asked-is _ _ (a .pre .0) (a .pre .1 .0) _ _ _ (l .part .ensures) (s .part2 .ensures) (d .part3 .ensures) _ (a .pre .1 .1) _ _ (p .put-string .ensures) _
 
 pub ask-spec : {M : Type 1} → statement M
 ask-spec =

@@ -1,6 +1,7 @@
 -- A line feed, and the line after it. Assumes nothing.
-use denote.Ref.{now}
-use Rattle.signing.proofs.StringLaws.{line-room, next-written}
+use mathlib.Core.List.{[], _∷_}
+use mathlib.Core.Path.{_∙_}
+use Rattle.text.proofs.WritingLaws.{wrote-more}
 use borrow.Author.Needs.{needs}
 use Rattle.signing.proofs.line.put_next.Statement.{statement}
 use Rattle.signing.proofs.line.put_next.Tie as tie
@@ -12,10 +13,7 @@ put-requires : tie.Need-put-requires
 put-requires c κs = search needs
 
 put-line-requires : tie.Need-put-line-requires
-put-line-requires c κs =
-    let p = c .before .before .before in
-    let a = p .before .before .before .before .before .before in
-    line-room (now (a .args .out)) (a .args .at) (now (a .args .name)) (now (a .args .value)) (a .pre) (p .put .result) (p .put .last .0) (p .put .ensures)
+put-line-requires c κs = search needs
 
 same-length : tie.Need-same-length
 same-length c = search needs
@@ -24,8 +22,7 @@ returns : tie.Need-returns
 returns c =
     let q = c .before .before in
     let p = q .before .before .before .before in
-    let a = p .before .before .before .before .before .before in
-    next-written (now (a .args .out)) (a .args .at) (now (a .args .name)) (now (a .args .value)) (a .pre) (p .put .result) (p .put .last .0) (p .put .ensures) (q .put-line .result) (q .put-line .last .0) (q .put-line .ensures)
+    q .put-line .ensures ∙ wrote-more _ _ (10 ∷ []) _ _ (p .put .ensures) _
 
 pub put-next-spec : {M : Type 1} → statement M
 put-next-spec =

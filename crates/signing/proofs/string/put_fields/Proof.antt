@@ -1,7 +1,7 @@
 -- What is written, with the lines of the names from i on, is all lines. Assumes nothing.
 use mathlib.Core.List.{List}
 use mathlib.Core.Path.{_≡_, refl, sym, _∙_}
-use Prim.Native.Nat.{ℕ, _+_, _-_, _≤_, _<_}
+use Prim.Native.Nat.{ℕ, _-_, _<_}
 use native.Mathlib.Omega.{arith}
 use borrow.Author.Needs.{needs}
 use denote.Ref.{now}
@@ -11,15 +11,16 @@ use Rattle.head.proofs.NameLaws.{names-count}
 use Rattle.params.specs.NameList.{namesIn}
 use Rattle.stream.specs.Lines.{Field}
 use Rattle.stream.specs.Signing.{signedFields}
-use Rattle.signing.specs.Writing.{following, wrote}
-use Rattle.signing.proofs.StringLaws.{turn-fits, turn-room, turn-size, turn-written, turns-end}
+use Rattle.text.specs.Writing.{wrote}
+use Rattle.text.proofs.WritingLaws.{same-size}
+use Rattle.signing.specs.Writing.{following}
+use Rattle.signing.proofs.StringLaws.{turn-written, turns-end}
 use Rattle.signing.proofs.string.put_fields.Statement.{statement}
 use Rattle.signing.proofs.string.put_fields.Tie as tie
 
 abbrev Inv-loop : tie.InvT-loop
 Inv-loop text f list n out₀ from end at₀ i₀ out at i =
-    (at + length (following (signedFields (fieldsIn text f) (drop i (namesIn list n)))) ≤ length out)
-    × (length out ≡ length out₀)
+    (length out ≡ length out₀)
     × (wrote out at (following (signedFields (fieldsIn text f) (drop i (namesIn list n)))) ≡ wrote out₀ from (following (signedFields (fieldsIn text f) (drop 2 (namesIn list n)))))
 
 abbrev μ-loop : tie.MeasureT-loop
@@ -42,7 +43,7 @@ count-requires : tie.Need-count-requires Inv-loop μ-loop
 count-requires c κs = search needs
 
 loop-holds : tie.Need-loop-holds Inv-loop μ-loop
-loop-holds c = (c .before .before .before .before .pre, refl, refl)
+loop-holds c = (refl, refl)
 
 name-requires : tie.Need-name-requires Inv-loop μ-loop
 name-requires c κs = search needs
@@ -51,10 +52,7 @@ value-of-requires : tie.Need-value-of-requires Inv-loop μ-loop
 value-of-requires c κs = search needs
 
 put-next-requires : tie.Need-put-next-requires Inv-loop μ-loop
-put-next-requires c κs =
-    let m = c .before .before in
-    let a = m .before .before in
-    turn-fits (Fs a) (Ns a) (a .loop .i) (goes-on (m .before)) (a .loop .out) (a .loop .at) (a .loop .inv .0) (now (m .name .result)) (now (c .value-of .result)) (m .name .ensures) (c .value-of .ensures)
+put-next-requires c κs = search needs
 
 add-i : tie.Need-add-i Inv-loop μ-loop
 add-i c = search needs
@@ -70,18 +68,17 @@ loop-again c =
     let a = m .before .before in
     let g = goes-on (m .before) in
     let x = a .loop .inv in (
-      turn-room (Fs a) (Ns a) (a .loop .i) g (a .loop .out) (a .loop .at) (x .0) (now (m .name .result)) (now (v .value-of .result)) (m .name .ensures) (v .value-of .ensures) (w .put-next .result) (w .put-next .last .0) (w .put-next .ensures),
-      turn-size (Fs a) (Ns a) (a .loop .i) g (a .loop .out) (a .loop .at) (x .0) (now (m .name .result)) (now (v .value-of .result)) (m .name .ensures) (v .value-of .ensures) (w .put-next .result) (w .put-next .last .0) (w .put-next .ensures) ∙ x .1,
-      turn-written (Fs a) (Ns a) (a .loop .i) g (a .loop .out) (a .loop .at) (x .0) (now (m .name .result)) (now (v .value-of .result)) (m .name .ensures) (v .value-of .ensures) (w .put-next .result) (w .put-next .last .0) (w .put-next .ensures) ∙ x .2,
+      same-size (a .loop .out) (a .loop .at) _ _ _ (w .put-next .ensures) ∙ x .0,
+      turn-written (Fs a) (Ns a) (a .loop .i) (a .loop .out) (a .loop .at) g _ _ (m .name .ensures) (v .value-of .ensures) _ _ (w .put-next .ensures) ∙ x .1,
     )
 
 same-length : tie.Need-same-length Inv-loop μ-loop
-same-length c = c .before .loop .inv .1
+same-length c = c .before .loop .inv .0
 
 returns : tie.Need-returns Inv-loop μ-loop
 returns c =
     let a = c .before in
-    turns-end (Fs a) (Ns a) (a .loop .i) (a .loop .out) (a .loop .at) (omega (arith, ends a, c .loop-test .left)) ∙ a .loop .inv .2
+    turns-end (Fs a) (Ns a) (a .loop .i) (a .loop .out) (a .loop .at) (omega (arith, ends a, c .loop-test .left)) ∙ a .loop .inv .1
 
 pub put-fields-spec : {M : Type 1} → statement M
 put-fields-spec =

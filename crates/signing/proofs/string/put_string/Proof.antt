@@ -2,7 +2,7 @@
 use denote.Ref.{now}
 use Rattle.fields.specs.Table.{fieldsIn}
 use Rattle.params.specs.NameList.{namesIn}
-use Rattle.signing.proofs.StringLaws.{first-fits, second-fits, others-fit, string-written}
+use Rattle.signing.proofs.StringLaws.{string-written}
 use borrow.Author.Needs.{needs}
 use Rattle.signing.proofs.string.put_string.Statement.{statement}
 use Rattle.signing.proofs.string.put_string.Tie as tie
@@ -11,28 +11,16 @@ slice-aggregate-put-line : tie.Need-slice-aggregate-put-line
 slice-aggregate-put-line c = search needs
 
 put-line-requires : tie.Need-put-line-requires
-put-line-requires c κs =
-    let s = c .before .before .before .before .before .before .before in
-    let a = s .args in
-    first-fits (fieldsIn (now (a .text)) (a .f)) (namesIn (now (a .list)) (a .n)) (now (a .digits)) (now (a .created)) (now (a .out)) (s .pre)
+put-line-requires c κs = search needs
 
 slice-aggregate-put-next : tie.Need-slice-aggregate-put-next
 slice-aggregate-put-next c = search needs
 
 put-next-requires : tie.Need-put-next-requires
-put-next-requires c κs =
-    let l = c .before .before .before .before in
-    let s = l .before .before .before .before .before .before .before .before in
-    let a = s .args in
-    second-fits (fieldsIn (now (a .text)) (a .f)) (namesIn (now (a .list)) (a .n)) (now (a .digits)) (now (a .created)) (now (a .out)) (s .pre) (l .put-line .result) (l .put-line .last .0) (l .put-line .ensures)
+put-next-requires c κs = search needs
 
 put-fields-requires : tie.Need-put-fields-requires
-put-fields-requires c κs =
-    let p = c .before .before .before in
-    let l = p .before .before .before .before .before in
-    let s = l .before .before .before .before .before .before .before .before in
-    let a = s .args in
-    others-fit (fieldsIn (now (a .text)) (a .f)) (namesIn (now (a .list)) (a .n)) (now (a .digits)) (now (a .created)) (now (a .out)) (s .pre) (l .put-line .result) (l .put-line .last .0) (l .put-line .ensures) (p .put-next .result) (p .put-next .last .0) (p .put-next .ensures)
+put-fields-requires c κs = search needs
 
 same-length : tie.Need-same-length
 same-length c = search needs
@@ -42,9 +30,8 @@ returns c =
     let q = c .before .before in
     let p = q .before .before .before .before in
     let l = p .before .before .before .before .before in
-    let s = l .before .before .before .before .before .before .before .before in
-    let a = s .args in
-    string-written (fieldsIn (now (a .text)) (a .f)) (namesIn (now (a .list)) (a .n)) (now (a .digits)) (now (a .created)) (now (a .out)) (s .pre) (l .put-line .result) (l .put-line .last .0) (l .put-line .ensures) (p .put-next .result) (p .put-next .last .0) (p .put-next .ensures) _ _ (q .put-fields .ensures)
+    let a = l .before .before .before .before .before .before .before .before .args in
+    string-written (fieldsIn (now (a .text)) (a .f)) (namesIn (now (a .list)) (a .n)) _ _ _ _ _ (l .put-line .ensures) _ _ (p .put-next .ensures) _ _ (q .put-fields .ensures)
 
 pub put-string-spec : {M : Type 1} → statement M
 put-string-spec =

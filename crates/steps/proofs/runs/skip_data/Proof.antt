@@ -1,10 +1,6 @@
--- What is copied is the run, and the place after it is within the buffer or where it was. Assumes nothing.
+-- What is written is the run. Assumes nothing.
 use borrow.Author.Needs.{needs}
-use denote.Ref.{now}
-use mathlib.Core.Path.{_≡_}
-use native.Mathlib.Omega.{arith}
-use Prim.Native.Nat.{_-_}
-use Rattle.steps.proofs.SkipLaws.{place-fits, skipped-is}
+use Rattle.steps.proofs.SkipLaws.{goes-up, skipped-is}
 use Rattle.steps.proofs.runs.skip_data.Statement.{statement}
 use Rattle.steps.proofs.runs.skip_data.Tie as tie
 
@@ -14,24 +10,37 @@ less-requires c κs = search needs
 less-requires-2 : tie.Need-less-requires-2
 less-requires-2 c κs = search needs
 
-copy-to-requires : tie.Need-copy-to-requires
-copy-to-requires c κs = search needs
+least-requires : tie.Need-least-requires
+least-requires c κs = search needs
 
-add-next : tie.Need-add-next
-add-next c =
-    let a = c .before .before .before .before .before .before .before .before .args in
-    record { fits = place-fits (a .have) _ _ (now (a .block)) _ (now (a .rest)) (c .before .before .copy-to .ensures) _ (omega arith) (omega arith) }
+sub-put : tie.Need-sub-put
+sub-put c = search needs
+
+part-put-start : tie.Need-part-put-start
+part-put-start c = search needs
+
+part-put-end : tie.Need-part-put-end
+part-put-end c = search needs
+
+put-requires : tie.Need-put-requires
+put-requires c κs = search needs
 
 in-phase-requires : tie.Need-in-phase-requires
 in-phase-requires c κs = search needs
+
+sub-t10 : tie.Need-sub-t10
+sub-t10 c =
+    let p = c .before .before .before in
+    goes-up _ _ _ _ _ _ _ (p .before .before .before .least .ensures) (p .put .ensures)
 
 same-length : tie.Need-same-length
 same-length c = search needs
 
 returns : tie.Need-returns
 returns c =
-    let m : c .before .before .before .before .before .less2 .result ≡ c .before .before .before .before .before .before .before .before .before .args .size - c .before .before .before .before .before .before .before .before .before .args .have - 1 = cc in
-    rw (c .in-phase .ensures) (skipped-is _ _ _ _ _ _ (c .before .before .before .copy-to .ensures) _ _ m)
+    let p = c .before .before .before in
+    let l = p .before .before .before in
+    rw (c .in-phase .ensures) (skipped-is _ _ _ _ _ _ _ (l .least .ensures) (p .put .ensures) _ _ (search needs))
 
 pub skip-data-spec : {M : Type 1} → statement M
 skip-data-spec =
@@ -39,8 +48,12 @@ skip-data-spec =
     (tie.spec
     less-requires
     less-requires-2
-    copy-to-requires
-    add-next
+    least-requires
+    sub-put
+    part-put-start
+    part-put-end
+    put-requires
     in-phase-requires
+    sub-t10
     same-length
     returns)

@@ -1,8 +1,8 @@
 -- The part lies within the text once its places are clipped. Assumes nothing.
 use borrow.Author.Needs.{needs}
-use Rattle.fields.specs.Table.{partOf}
-use Rattle.fields.proofs.table.part.Statement.{statement}
-use Rattle.fields.proofs.table.part.Tie as tie
+use Rattle.text.specs.Place.{partOf}
+use Rattle.text.proofs.places.part.Statement.{statement}
+use Rattle.text.proofs.places.part.Tie as tie
 
 clip-requires : tie.Need-clip-requires
 clip-requires c κs = search needs

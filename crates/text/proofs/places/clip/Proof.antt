@@ -1,12 +1,12 @@
 -- The end is brought back to the text's, and a part of nothing is put at its front. Assumes nothing.
-use mathlib.Core.Path.{refl, sym}
+use mathlib.Core.Path.{sym}
 use native.Mathlib.Omega.{arith}
 use borrow.Author.Needs.{needs}
 use denote.Ref.{now}
-use Rattle.fields.specs.Table.{partOf}
-use Rattle.fields.proofs.TableLaws.{part-cut, part-none}
-use Rattle.fields.proofs.table.clip.Statement.{statement}
-use Rattle.fields.proofs.table.clip.Tie as tie
+use Rattle.text.specs.Place.{partOf}
+use Rattle.text.proofs.PlaceLaws.{part-cut, part-none}
+use Rattle.text.proofs.places.clip.Statement.{statement}
+use Rattle.text.proofs.places.clip.Tie as tie
 
 least-requires : tie.Need-least-requires
 least-requires c κs = search needs
@@ -15,14 +15,13 @@ returns : tie.Need-returns
 unfolding partOf
 returns c =
     let a = c .before .before .before .args in
-    record { found = refl; content = sym (part-none (now (a .text)) (a .start) (a .end) (omega arith)); ordered = omega arith; within = omega arith }
+    record { content = sym (part-none (now (a .text)) (a .start) (a .end) (omega arith)); ordered = omega arith; within = omega arith }
 
 returns-2 : tie.Need-returns-2
-unfolding partOf
 returns-2 c =
     let a = c .before .before .before .args in
     let e = c .before .least .ensures in
-    record { found = refl; content = rw e (sym (part-cut (now (a .text)) (a .start) (a .end))); ordered = omega arith; within = omega arith }
+    record { content = rw e (sym (part-cut (now (a .text)) (a .start) (a .end))); ordered = omega arith; within = omega arith }
 
 pub clip-spec : {M : Type 1} → statement M
 clip-spec = tie.close (tie.spec least-requires returns returns-2)
