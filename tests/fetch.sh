@@ -4,6 +4,7 @@
 set -uo pipefail
 shopt -s lastpipe # so that a fetch at the end of a pipe can set its status
 cd "$(dirname "$0")/.."
+. scripts/counting
 scripts/library || exit 1
 cargo build --release --offline --quiet --manifest-path rust/Cargo.toml -p oui-sign -p oui-relay -p oui-fetch || exit 1
 
@@ -12,20 +13,10 @@ PATH=$PWD/rust/target/release:$PATH
 work=$(mktemp -d)
 trap 'rm -rf "$work"' EXIT
 cd "$work" || exit 1
-passed=0
-failed=0
 
-# expect NAME TEST..: count a test, and name it where it fails.
+# expect NAME TEST..: count a test; where it fails, show what the last command said.
 expect() {
-    local name=$1
-    shift
-    if "$@"; then
-        passed=$((passed + 1))
-    else
-        echo "FAILED: $name"
-        sed 's/^/  said: /' said 2>/dev/null | tail -3
-        failed=$((failed + 1))
-    fi
+    check "$@" || sed 's/^/  said: /' said 2>/dev/null | tail -3
 }
 
 # fetch WORDS..: oui-fetch with the ring and the file `got`; sets `status`, and leaves its last words in `said`.
@@ -163,5 +154,4 @@ fetch "$top"/crates/ouiread/data/stream
 expect 'the built-in example' ended 0 'closed: 12 bytes in 3 blocks'
 expect 'its body' cmp -s show got
 
-echo "$passed passed, $failed failed"
-[ "$failed" -eq 0 ]
+tell

@@ -5,25 +5,12 @@
 # many pages of the mapped files the system has brought in.
 set -uo pipefail
 cd "$(dirname "$0")/.."
+. scripts/counting
 cargo build --release --offline --quiet --manifest-path rust/Cargo.toml || exit 1
 
 streams=rust/target/release/streams
 work=$(mktemp -d)
 trap 'rm -rf "$work"' EXIT
-passed=0
-failed=0
-
-# expect NAME TEST..: count a test, and name it where it fails.
-expect() {
-    local name=$1
-    shift
-    if "$@"; then
-        passed=$((passed + 1))
-    else
-        echo "FAILED: $name"
-        failed=$((failed + 1))
-    fi
-}
 
 # peak PID NAME: a line of a process's status, in kilobytes.
 peak() {
@@ -46,9 +33,9 @@ through() {
     exec 3>&-
     wait "$reader"
     rm "$work/stream"
-    expect "a body of $bytes bytes is closed" test "$(tail -n 1 "$work/events")" = "closed $bytes"
-    expect "its $bytes bytes are released" test "$(wc -c <"$work/body")" -eq "$bytes"
-    expect "its peak is known" test "${space:-0}" -gt 0
+    check "a body of $bytes bytes is closed" test "$(tail -n 1 "$work/events")" = "closed $bytes"
+    check "its $bytes bytes are released" test "$(wc -c <"$work/body")" -eq "$bytes"
+    check "its peak is known" test "${space:-0}" -gt 0
     echo "a body of $bytes bytes: at most $space kB of address space, $resident kB resident"
 }
 
@@ -56,7 +43,6 @@ echo 65536 >"$work/cuts"
 through $((1 << 20)) || exit 1
 small=${space:-0}
 through $((64 << 20)) || exit 1
-expect 'at most 64 kB more for the larger body' test "${space:-0}" -le $((small + 64))
+check 'at most 64 kB more for the larger body' test "${space:-0}" -le $((small + 64))
 
-echo "$passed passed, $failed failed"
-[ "$failed" -eq 0 ]
+tell

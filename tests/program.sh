@@ -3,6 +3,7 @@
 # may be pipes. (tests/compare.sh has the malformed files.)
 set -uo pipefail
 cd "$(dirname "$0")/.."
+. scripts/counting
 
 ouiread=$PWD/target/bin/ouiread
 work=$(mktemp -d)
@@ -12,20 +13,19 @@ mkdir folder
 ln -s /proc/self/mem unreadable # opens, and its first read fails
 head -n 3 nine >three
 : >nothing
-passed=0
-failed=0
 
 # expect NAME EVENTS COMPLAINT: what the last command wrote must be the events in a file, and on standard error the complaint, as one
 # line, or nothing where it is empty.
 expect() {
-    if cmp -s "$2" out && [ "$(cat err)" = "$3" ] && [ "$(wc -l <err)" -eq "$([ -z "$3" ] && echo 0 || echo 1)" ]; then
-        passed=$((passed + 1))
-    else
-        echo "FAILED: $1"
+    if ! check "$1" wrote "$2" "$3"; then
         sed 's/^/  out: /' out
         sed 's/^/  err: /' err
-        failed=$((failed + 1))
     fi
+}
+
+# wrote EVENTS COMPLAINT: whether it did.
+wrote() {
+    cmp -s "$1" out && [ "$(cat err)" = "$2" ] && [ "$(wc -l <err)" -eq "$([ -z "$2" ] && echo 0 || echo 1)" ]
 }
 
 # run ARGUMENTS..: ouiread, with what it writes in out and err.
@@ -104,5 +104,4 @@ expect 'a body' nine ''
 printf 'Hello world!' | cmp -s - body && : >out || echo 'another body' >out
 expect 'its bytes' nothing ''
 
-echo "$passed passed, $failed failed"
-[ "$failed" -eq 0 ]
+tell

@@ -3,9 +3,8 @@
 # program's functions are called by nobody else, so programs are left out.
 set -uo pipefail
 cd "$(dirname "$0")/.."
+. scripts/counting
 
-passed=0
-failed=0
 found=$(mktemp)
 listed=$(mktemp)
 trap 'rm -f "$found" "$listed"' EXIT
@@ -41,5 +40,4 @@ else
     failed=$((failed + 1))
 fi
 
-printf '%d passed, %d failed\n' "$passed" "$failed"
-[ "$failed" -eq 0 ]
+tell
