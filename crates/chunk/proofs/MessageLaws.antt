@@ -15,8 +15,8 @@ use Rattle.number.proofs.Placing.{decimal-fits}
 use Rattle.number.specs.Writing.{Written, written, over, decimalWritten}
 use Rattle.stream.specs.Blocks.{blockMessage}
 use Rattle.stream.specs.Numbers.{decimal}
-use Rattle.text.specs.Writing.{Placed, placed, wrote}
-use Rattle.text.proofs.WritingLaws.{wrote-front}
+use Rattle.places.specs.Writing.{Placed, placed, wrote}
+use Rattle.places.proofs.WritingLaws.{wrote-front}
 use Rattle.chunk.specs.Writing.{atFront, messageWritten}
 
 -- ---- by the room

@@ -3,7 +3,7 @@ use mathlib.Core.Path.{_≡_}
 use Prim.Native.Nat.{ℕ, _*_, _≤_, _<_}
 use native.Mathlib.Nat.{min-eq-left, min-eq-right, mul-zero, le-of-lt}
 use Rattle.chunk.specs.Place.{largest, offsetAt}
-use Rattle.chunk.specs.declared.places.BlockNumber.{BlockNumber}
+use Rattle.chunk.specs.declared.offsets.BlockNumber.{BlockNumber}
 
 module _ (i : BlockNumber) (N : ℕ) where
   pub offset-fits : i .0 * N ≤ largest → offsetAt i N ≡ record { 0 = i .0 * N }

@@ -23,10 +23,10 @@ use Rattle.stream.specs.Lines.{crlf, endsWith}
 use Rattle.stream.specs.Numbers.{isHexNumber}
 use Rattle.stream.specs.Template.{run, startsWith}
 use Rattle.text.proofs.LineLaws.{ends-short}
-use Rattle.text.proofs.RunLaws.{run-take, past-drop, run-le}
+use Rattle.classes.proofs.RunLaws.{run-take, past-drop, run-le}
 use Rattle.text.proofs.SameLaws.{starts-within}
-use Rattle.text.specs.Class.{classOf}
-use Rattle.text.specs.declared.classes.Class.the-variants.{Hex}
+use Rattle.classes.specs.Class.{classOf}
+use Rattle.classes.specs.declared.Class.the-variants.{Hex}
 use Rattle.chunk.specs.Judging.{zeros}
 use Rattle.chunk.specs.Parts.{good, wrong, isNothing, isSignature, extensionRead, textRead, lineRead}
 

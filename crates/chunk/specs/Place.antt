@@ -1,8 +1,8 @@
 -- The places of blocks, in the 64 bits that the code has for them. Assumes nothing.
 use Prim.Native.Nat.{ℕ, min}
 use Rattle.stream.specs.Blocks.{offsetOf}
-use Rattle.chunk.specs.declared.places.BlockNumber.{BlockNumber}
-use Rattle.chunk.specs.declared.places.ByteOffset.{ByteOffset}
+use Rattle.chunk.specs.declared.offsets.BlockNumber.{BlockNumber}
+use Rattle.chunk.specs.declared.offsets.ByteOffset.{ByteOffset}
 
 -- the largest number of 64 bits
 abbrev pub largest : ℕ

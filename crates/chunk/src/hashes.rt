@@ -1,5 +1,5 @@
 // The hash chain: each block's hash takes in the hash of the block before it.
-use crate::places::BlockNumber;
+use crate::offsets::BlockNumber;
 ghost use mathlib.Core.List.{[]};
 ghost use mathlib.Core.Path.{_≡_};
 ghost use lib.Dec.{eqb};

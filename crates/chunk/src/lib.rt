@@ -2,7 +2,7 @@
 mod hashes; // the hash chain
 mod judging; // a chunk line against the rules
 mod messages; // the message that a signature signs
-mod places; // block numbers and byte offsets
+mod offsets; // block numbers and byte offsets
 mod reading; // the text of a chunk line
 
 pub use hashes::chain;
@@ -10,6 +10,6 @@ pub use judging::Line;
 pub use judging::LineAnswer;
 pub use judging::judge;
 pub use messages::message;
-pub use places::BlockNumber;
-pub use places::ByteOffset;
-pub use places::offset_of;
+pub use offsets::BlockNumber;
+pub use offsets::ByteOffset;
+pub use offsets::offset_of;

@@ -1,22 +1,22 @@
 // The message that a block's signature signs, written at the front of a lent buffer.
-use crate::places::ByteOffset;
+use crate::offsets::ByteOffset;
 ghost use mathlib.Core.List.{_++_, _∷_};
 ghost use mathlib.Core.Path.{_≡_};
 ghost use lib.ListN.{take};
 ghost use Rattle.number.specs.Writing.{written};
 ghost use Rattle.stream.specs.Blocks.{blockMessage};
-ghost use Rattle.text.specs.Writing.{placed, wrote};
+ghost use Rattle.places.specs.Writing.{placed, wrote};
 ghost use Rattle.chunk.specs.Writing.{messageWritten};
 
 // Writes the parts of a message, with a zero byte after each but the last, and returns the place after them.
 fn join(out: &mut [u8], id: &[u8], offset: &[u8], hash: &[u8]) -> usize
     ensures { λ r. ⌜ placed r (now (out .exit)) ≡ wrote (now (out .entry)) 0 (now (id .entry) ++ 0 ∷ (now (offset .entry) ++ 0 ∷ now (hash .entry))) ⌝ }
 {
-    let id_end = text::put(out, 0, id);
-    let offset_start = text::put(out, id_end, b"\0");
-    let offset_end = text::put(out, offset_start, offset);
-    let hash_start = text::put(out, offset_end, b"\0");
-    text::put(out, hash_start, hash)
+    let id_end = places::put(out, 0, id);
+    let offset_start = places::put(out, id_end, b"\0");
+    let offset_end = places::put(out, offset_start, offset);
+    let hash_start = places::put(out, offset_end, b"\0");
+    places::put(out, hash_start, hash)
 }
 
 // Writes the message of the block at an offset, of the show whose id is the first bytes of `id`, and returns the message's
@@ -33,7 +33,7 @@ pub fn message(
     let mut digits = [0u8; 20];
     let at = offset.0;
     let count = number::write_decimal(&mut digits, 0, at);
-    let id_end = text::least(id_length, 64);
+    let id_end = places::least(id_length, 64);
     let total = id_end + count + 66;
     if out.len() < total {
         return 0;

@@ -1,6 +1,6 @@
 // The text of a chunk line, taken apart.
+use classes::Class;
 use number::Number;
-use text::Class;
 ghost use mathlib.Core.Path.{_≡_};
 ghost use Rattle.chunk.specs.Parts.{wrong as wrongText, extensionRead, textRead, lineRead};
 
@@ -54,7 +54,7 @@ fn read_extension(rest: &[u8], size: u64) -> ChunkText
 fn read_text(s: &[u8]) -> ChunkText
     ensures { λ r. ⌜ r ≡ textRead (now (s .entry)) ⌝ }
 {
-    let end = text::run_end(s, 0, Class::Hex);
+    let end = classes::run_end(s, 0, Class::Hex);
     match number::hex(&s[0..end], 8) {
         Number::Value(size) => read_extension(&s[end..], size),
         Number::Bad => wrong(),

@@ -14,18 +14,18 @@ use Rattle.octets.specs.Octets.{octets}
 use Rattle.stream.specs.Bytes.{isTchar, isText}
 use Rattle.stream.specs.Lines.{fieldScan, isFieldLine, fieldOf, trimmed}
 use Rattle.stream.specs.Template.{Part, text, bytes, Scanned, parts, unlike, keep, kept, isLike, scan, run, startsWith}
-use Rattle.text.proofs.RunLaws.{run-le}
-use Rattle.text.proofs.ScanLaws.{scan-text, scan-unlike, scan-bytes-to, scan-end, scan-over}
+use Rattle.classes.proofs.RunLaws.{run-le}
+use Rattle.classes.proofs.ScanLaws.{scan-text, scan-unlike, scan-bytes-to, scan-end, scan-over}
 use Rattle.text.proofs.SameLaws.{starts-within}
-use Rattle.text.proofs.SpanLaws.{span-order, span-within, span-trims}
-use Rattle.text.specs.Span.{spanOf}
-use Rattle.text.specs.declared.spans.Span.{Span}
+use Rattle.classes.proofs.SpanLaws.{span-order, span-within, span-trims}
+use Rattle.classes.specs.Span.{spanOf}
+use Rattle.places.specs.declared.Span.{Span}
 use Rattle.fields.specs.Answers.{answer, noLine, ReadsField}
-use Rattle.text.specs.Place.{partOf}
+use Rattle.places.specs.Place.{partOf}
 use Rattle.fields.specs.Table.{noEntry, entryField}
 use Rattle.fields.specs.declared.line.FieldLine.{FieldLine}
 use Rattle.fields.proofs.AnswerLaws.{both-bad}
-use Rattle.text.proofs.PlaceLaws.{part-shift}
+use Rattle.places.proofs.PlaceLaws.{part-shift}
 
 abbrev afterName : List Part
 afterName = text (octets ":") ∷ bytes isText ∷ []

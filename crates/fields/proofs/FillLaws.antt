@@ -12,11 +12,11 @@ use lib.ListN.{length, getD, set, replicate}
 use lib.Seq.{getD-set-same, getD-set-other}
 use Rattle.fields.specs.Answers.{answer, Within, ReadsField}
 use Rattle.fields.specs.declared.line.FieldLine.{FieldLine}
-use Rattle.text.specs.Place.{partOf}
+use Rattle.places.specs.Place.{partOf}
 use Rattle.fields.specs.Table.{noEntry, entryField, fieldsFrom, fieldsIn}
 use Rattle.fields.specs.declared.table.Entry.{Entry}
 use Rattle.fields.specs.declared.table.Fields.{Fields}
-use Rattle.text.proofs.PlaceLaws.{part-moved, part-length}
+use Rattle.places.proofs.PlaceLaws.{part-moved, part-length}
 
 -- ---- the fields, where one entry more is set
 

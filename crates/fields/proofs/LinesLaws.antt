@@ -16,7 +16,7 @@ use Rattle.text.specs.Line.{lineLength}
 use Rattle.text.proofs.LineLaws.{text-none, text-end, text-first}
 use Rattle.text.proofs.SameLaws.{both-false}
 use Rattle.fields.specs.Answers.{answer, ReadsField}
-use Rattle.text.specs.Place.{partOf}
+use Rattle.places.specs.Place.{partOf}
 use Rattle.fields.specs.Table.{fieldsFrom}
 use Rattle.fields.specs.declared.line.FieldLine.{FieldLine}
 use Rattle.fields.specs.declared.table.Entry.{Entry}

@@ -11,9 +11,9 @@ use Rattle.octets.specs.Octets.{octets}
 use Rattle.stream.specs.Bytes.{isDigit, isText}
 use Rattle.stream.specs.Lines.{statusScan, isStatusLine, statusOf}
 use Rattle.stream.specs.Template.{Part, text, bytes, Scanned, parts, unlike, keep, kept, isLike, scan, run, startsWith}
-use Rattle.text.specs.Place.{partOf}
-use Rattle.text.proofs.RunLaws.{run-le}
-use Rattle.text.proofs.ScanLaws.{scan-text, scan-unlike, scan-bytes-to, scan-end, scan-over}
+use Rattle.places.specs.Place.{partOf}
+use Rattle.classes.proofs.RunLaws.{run-le}
+use Rattle.classes.proofs.ScanLaws.{scan-text, scan-unlike, scan-bytes-to, scan-end, scan-over}
 
 abbrev afterDigits : List Part
 afterDigits = text (octets " ") ∷ bytes isText ∷ []

@@ -9,7 +9,7 @@ use lib.ListN.{length, getD}
 use Rattle.stream.specs.Fields.{hasField, valueOf}
 use Rattle.stream.specs.Limits.{fieldLimit}
 use Rattle.stream.specs.Lines.{isFieldLine, fieldOf, areFieldLines, fieldsOf}
-use Rattle.text.specs.Place.{partOf}
+use Rattle.places.specs.Place.{partOf}
 use Rattle.fields.specs.Table.{noEntry, entryField, fieldsIn}
 use Rattle.fields.specs.declared.line.FieldLine.{FieldLine}
 use Rattle.fields.specs.declared.reading.FieldsRead.{FieldsRead}

@@ -5,7 +5,7 @@ use Prim.Native.Nat.{ℕ, zero, suc, _+_, min}
 use lib.ListN.{getD}
 use Rattle.stream.specs.Limits.{fieldLimit}
 use Rattle.stream.specs.Lines.{Field}
-use Rattle.text.specs.Place.{partOf}
+use Rattle.places.specs.Place.{partOf}
 use Rattle.fields.specs.declared.table.Entry.{Entry}
 use Rattle.fields.specs.declared.table.Fields.{Fields}
 

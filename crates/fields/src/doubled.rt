@@ -10,8 +10,8 @@ ghost use Rattle.fields.specs.Table.{entryName, fieldsIn};
 fn same_names(text: &[u8], a: Entry, b: Entry) -> bool
     ensures { λ r. ⌜ r ≡ sameName (entryName (now (text .entry)) a) (entryName (now (text .entry)) b) ⌝ }
 {
-    let name = text::part(text, a.name_start, a.name_end);
-    let other = text::part(text, b.name_start, b.name_end);
+    let name = places::part(text, a.name_start, a.name_end);
+    let other = places::part(text, b.name_start, b.name_end);
     text::same_name(name, other)
 }
 
@@ -19,7 +19,7 @@ fn same_names(text: &[u8], a: Entry, b: Entry) -> bool
 pub fn is_doubled(text: &[u8], f: Fields) -> bool
     ensures { λ r. ⌜ r ≡ isDoubled (namesOf (fieldsIn (now (text .entry)) f)) ⌝ }
 {
-    let n = text::least(f.count, table::FIELD_LIMIT);
+    let n = places::least(f.count, table::FIELD_LIMIT);
     let mut i = 0;
     'pairs: while i < n {
         let mut j = i + 1;

@@ -1,7 +1,7 @@
 // One line by itself: a field line, and the status line.
 use crate::table;
 use crate::table::Entry;
-use text::Class;
+use classes::Class;
 ghost use mathlib.Core.Path.{_≡_};
 ghost use Rattle.stream.specs.Lines.{isStatusLine};
 ghost use Rattle.fields.specs.Answers.{ReadsField, noLine};
@@ -24,7 +24,7 @@ fn no_line() -> FieldLine
 pub fn field_line(line: &[u8]) -> FieldLine
     ensures { λ r. ⌜ ReadsField (now (line .entry)) (now (line .entry)) r ⌝ }
 {
-    let colon = text::run_end(line, 0, Class::Tchar);
+    let colon = classes::run_end(line, 0, Class::Tchar);
     if colon == 0 {
         return no_line();
     }
@@ -32,10 +32,10 @@ pub fn field_line(line: &[u8]) -> FieldLine
         return no_line();
     }
     let start = colon + 1;
-    if text::run_end(line, start, Class::Text) < line.len() {
+    if classes::run_end(line, start, Class::Text) < line.len() {
         return no_line();
     }
-    let value = text::trim(&line[start..]);
+    let value = classes::trim(&line[start..]);
     FieldLine {
         good: true,
         entry: Entry {
@@ -54,13 +54,13 @@ pub fn is_status_line(line: &[u8]) -> bool
     if !text::starts_with(line, 0, b"HTTP/1.1 ") {
         return false;
     }
-    if text::run_end(line, 9, Class::Digit) != 12 {
+    if classes::run_end(line, 9, Class::Digit) != 12 {
         return false;
     }
     if !text::starts_with(line, 12, b" ") {
         return false;
     }
-    if text::run_end(line, 13, Class::Text) < line.len() {
+    if classes::run_end(line, 13, Class::Text) < line.len() {
         return false;
     }
     true

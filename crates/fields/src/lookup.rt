@@ -8,12 +8,12 @@ ghost use Rattle.fields.specs.Answers.{FindsValue};
 pub fn find(text: &[u8], f: Fields, name: &[u8]) -> Value
     ensures { λ r. ⌜ FindsValue (now (text .entry)) f (now (name .entry)) r ⌝ }
 {
-    let n = text::least(f.count, table::FIELD_LIMIT);
+    let n = places::least(f.count, table::FIELD_LIMIT);
     let mut i = 0;
     while i < n {
         let e = f.entries[i];
-        if text::same_name(name, text::part(text, e.name_start, e.name_end)) {
-            let value = text::clip(text, e.value_start, e.value_end);
+        if text::same_name(name, places::part(text, e.name_start, e.name_end)) {
+            let value = places::clip(text, e.value_start, e.value_end);
             return Value {
                 found: true,
                 start: value.start,

@@ -9,7 +9,7 @@ ghost use Prim.Native.Nat.{_≤_};
 ghost use lib.ListN.{drop, length};
 ghost use Rattle.stream.specs.Lines.{textLines};
 ghost use Rattle.fields.specs.Answers.{ReadsField, ReadsFields};
-ghost use Rattle.text.specs.Place.{partOf};
+ghost use Rattle.places.specs.Place.{partOf};
 
 // Whether all lines are field lines, and no more than a head may have; and their table.
 pub struct FieldsRead {

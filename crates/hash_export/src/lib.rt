@@ -14,8 +14,8 @@ pub extern "C" fn thawrushes_sha512_after(before: &[u8], message: &[u8], out: &m
         return false;
     }
     let mut start = [0u8; 64];
-    text::put(&mut start, 0, before);
+    places::put(&mut start, 0, before);
     let h = hash::sha512_after(start, message);
-    text::put(out, 0, &h);
+    places::put(out, 0, &h);
     true
 }

@@ -14,7 +14,7 @@ use Rattle.stream.specs.Lines.{crlf, endsWith, lines, beforeEmpty, textLines, i
 use Rattle.stream.specs.Template.{nth}
 use Rattle.stream.proofs.Truth.{left-holds, right-holds}
 use Rattle.fields.specs.Answers.{ReadsFields}
-use Rattle.text.specs.Place.{partOf}
+use Rattle.places.specs.Place.{partOf}
 use Rattle.fields.specs.Table.{fieldsIn}
 use Rattle.fields.specs.declared.reading.FieldsRead.{FieldsRead}
 use Rattle.fields.proofs.AnswerLaws.{fields-good, fields-are}

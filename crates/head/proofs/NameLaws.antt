@@ -15,7 +15,7 @@ use Rattle.stream.specs.Limits.{nameLimit}
 use Rattle.stream.specs.Lines.{Field}
 use Rattle.stream.specs.Signatures.{areFields, isNameList, listedFields, responseStatusName, createdName, versionName, uriName, injectionName, sig0Name}
 use Rattle.stream.specs.Template.{nth}
-use Rattle.text.specs.declared.spans.Span.{Span}
+use Rattle.places.specs.declared.Span.{Span}
 use Rattle.params.specs.NameList.{spanBytes, noSpan, namesFrom, namesIn}
 use Rattle.params.specs.declared.names.Names.{Names}
 use Rattle.params.proofs.SpanLaws.{names-length}

@@ -7,8 +7,8 @@ use native.Mathlib.Omega.{arith}
 use lib.ListN.{length}
 use Rattle.stream.specs.Signatures.{sig0Scan}
 use Rattle.stream.specs.Template.{Scanned}
-use Rattle.text.specs.Place.{partOf}
-use Rattle.text.proofs.PlaceLaws.{part-front, part-length, part-moved}
+use Rattle.places.specs.Place.{partOf}
+use Rattle.places.proofs.PlaceLaws.{part-front, part-length, part-moved}
 use Rattle.params.specs.HeadSig.{HeadSig, headSigIn, ReadsSig0}
 use Rattle.params.specs.declared.sig0.Sig0.{Sig0}
 

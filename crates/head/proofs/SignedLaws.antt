@@ -11,7 +11,7 @@ use Rattle.stream.specs.Lines.{Field}
 use Rattle.stream.specs.Signatures.{injectionScan, isInjection, bsigsScan, isBsigs, sig0Scan, namesText, isSig0, splitNames, isNameList, injectionName, bsigsName, sig0Name}
 use Rattle.stream.specs.Template.{Scanned}
 use Rattle.stream.proofs.Truth.{left-holds, right-holds}
-use Rattle.text.specs.Place.{partOf}
+use Rattle.places.specs.Place.{partOf}
 use Rattle.params.specs.BlockSigs.{bsigsOf}
 use Rattle.params.specs.HeadSig.{ReadsSig0}
 use Rattle.params.specs.Injection.{injectionOf}

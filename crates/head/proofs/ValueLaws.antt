@@ -18,7 +18,7 @@ use Rattle.stream.specs.Rule.{Rule, firstBroken}
 use Rattle.stream.specs.Signing.{signedFields}
 use Rattle.stream.proofs.Truth.{same-equal}
 use Rattle.text.proofs.SameLaws.{both-false}
-use Rattle.text.specs.Place.{partOf}
+use Rattle.places.specs.Place.{partOf}
 use Rattle.fields.specs.Table.{fieldsIn}
 use Rattle.params.specs.NameList.{namesIn}
 use Rattle.head.specs.Handing.{signedValue, handedValue}

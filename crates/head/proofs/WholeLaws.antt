@@ -11,7 +11,7 @@ use Rattle.stream.specs.Head.{headOf, headWith, endsHead, isStatus, statusDigit
 use Rattle.stream.specs.Lines.{Field, isStatusLine}
 use Rattle.stream.specs.Rule.{firstBroken}
 use Rattle.stream.proofs.Truth.{left-holds, right-holds}
-use Rattle.text.specs.Place.{partOf}
+use Rattle.places.specs.Place.{partOf}
 use Rattle.fields.specs.Table.{fieldsIn}
 use Rattle.head.specs.Reading.{Reads, Says}
 use Rattle.head.specs.Steps.{areGoodLines, ReadsLines, versionRules, statusNumber, isPlain, ReadsSigned, isSound, faultOf}

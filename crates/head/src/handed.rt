@@ -31,7 +31,7 @@ fn signed_value<'a>(text: &'a [u8], wanted: &[u8]) -> &'a [u8]
     }
     let signed = head.signed;
     let sig0 = signed.sig0;
-    let list = text::part(text, sig0.names_start, sig0.names_end);
+    let list = places::part(text, sig0.names_start, sig0.names_end);
     let spans = signed.names;
     if !names::among(list, spans, wanted, 2) {
         return &text[0..0];

@@ -16,5 +16,5 @@ pub fn value_of<'a>(text: &'a [u8], f: Fields, name: &[u8]) -> &'a [u8]
     ensures { λ r. ⌜ now r ≡ valueOf (now (name .entry)) (fieldsIn (now (text .entry)) f) ⌝ }
 {
     let v = fields::find(text, f, name);
-    text::part(text, v.start, v.end)
+    places::part(text, v.start, v.end)
 }

@@ -31,7 +31,7 @@ pub fn name(list: &[u8], n: Names, i: usize) -> &[u8]
         return &list[0..0];
     }
     let span = n.spans[i];
-    text::part(list, span.start, span.end)
+    places::part(list, span.start, span.end)
 }
 
 // Whether the name is one of the list's, from name `from` on.

@@ -28,7 +28,7 @@ fn sig0_in(text: &[u8], f: Fields) -> Sig0
 {
     let v = fields::find(text, f, b"x-ouinet-sig0");
     let start = v.start;
-    let s = params::read_sig0(text::part(text, start, v.end));
+    let s = params::read_sig0(places::part(text, start, v.end));
     let key = s.key;
     let signature = s.signature;
     Sig0 {
@@ -48,7 +48,7 @@ pub fn read_signed(text: &[u8], f: Fields) -> Signed
     let injection = params::read_injection(lookup::value_of(text, f, b"x-ouinet-injection"));
     let bsigs = params::read_bsigs(lookup::value_of(text, f, b"x-ouinet-bsigs"));
     let sig0 = sig0_in(text, f);
-    let list = text::part(text, sig0.names_start, sig0.names_end);
+    let list = places::part(text, sig0.names_start, sig0.names_end);
     let read = params::read_names(list);
     let spans = read.names;
     let listed = read.good & names::is_list(text, f, list, spans);

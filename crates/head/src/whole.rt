@@ -24,7 +24,7 @@ pub fn read(text: &[u8]) -> HeadRead
     let found = lines::read_lines(text);
     let table = found.fields;
     let version = plain::version_fault(text, table);
-    let status = plain::status_number(text::part(text, 9, 12));
+    let status = plain::status_number(places::part(text, 9, 12));
     let compared = plain::is_plain(text, table);
     let said = signed::read_signed(text, table);
     let sound = (status != 0) & (compared & said.good);

@@ -24,9 +24,9 @@ fn judge_next(input: &[u8], at: usize, ring: KeyRing) -> usize
 {
     let space = find(input, at, b' ');
     let start = find(input, at, b'\n') + 1;
-    let end = start + size(text::part(input, space + 1, start - 1));
-    let label = text::part(input, at, space);
-    judge_case(label, text::part(input, start, end), ring, &mut [0; 8192]);
+    let end = start + size(places::part(input, space + 1, start - 1));
+    let label = places::part(input, at, space);
+    judge_case(label, places::part(input, start, end), ring, &mut [0; 8192]);
     end
 }
 
@@ -81,7 +81,7 @@ fn judge_case(label: &[u8], head: &[u8], ring: KeyRing, question: &mut [u8; 8192
             say_count(b" size ", size);
             say_count(b" key ", key);
             say_part(b" id ", &id, id_length);
-            say_string(label, &signature, text::part(question, 0, length));
+            say_string(label, &signature, places::part(question, 0, length));
         }
     }
     say(b"\n");
@@ -89,7 +89,7 @@ fn judge_case(label: &[u8], head: &[u8], ring: KeyRing, question: &mut [u8; 8192
 
 fn say_part(word: &[u8], bytes: &[u8; 64], length: usize) {
     say(word);
-    say(text::part(bytes, 0, length));
+    say(places::part(bytes, 0, length));
 }
 
 fn wide(n: u8) -> u64 {

@@ -112,7 +112,7 @@ fn seek(a: Answers, all: bool) -> Next {
     let mut turns = u64::MAX;
     while turns > 0 {
         turns -= 1;
-        let found = find(text::part(&text, 0, have), at, line, all);
+        let found = find(places::part(&text, 0, have), at, line, all);
         let letter = found.letter;
         line = found.line;
         at = found.next;

@@ -32,7 +32,7 @@ pub fn fault(text: &[u8]) -> u64 {
     while at < text.len() {
         line = following(line);
         let cut = cut_off(text, at, b'\n');
-        let word = text::part(text, at, cut.end);
+        let word = places::part(text, at, cut.end);
         if (LINE_LIMIT < line) | !is_length(word) {
             return line;
         }
@@ -64,7 +64,7 @@ pub fn cut_at(text: &[u8], place: usize) -> Cut {
     if place < text.len() {
         let cut = cut_off(text, place, b'\n');
         return Cut {
-            size: length_of(text::part(text, place, cut.end)),
+            size: length_of(places::part(text, place, cut.end)),
             next: cut.next,
         };
     }
@@ -73,7 +73,7 @@ pub fn cut_at(text: &[u8], place: usize) -> Cut {
     }
     let cut = cut_off(text, 0, b'\n');
     Cut {
-        size: length_of(text::part(text, 0, cut.end)),
+        size: length_of(places::part(text, 0, cut.end)),
         next: cut.next,
     }
 }

@@ -34,7 +34,7 @@ fn run(
     let Loaded::Text(n) = files::load(RING, piece) else {
         return;
     };
-    let keys = records::keys_of(text::part(piece, 0, n));
+    let keys = records::keys_of(places::part(piece, 0, n));
     if !keys.good {
         messages::complain(
             RING,
@@ -67,7 +67,7 @@ fn with_cuts(
     let Loaded::Text(n) = files::load(CUTS, text) else {
         return;
     };
-    let line = cuts::fault(text::part(text, 0, n));
+    let line = cuts::fault(places::part(text, 0, n));
     if line != 0 {
         messages::complain(
             CUTS,
@@ -81,7 +81,7 @@ fn with_cuts(
         block,
         question,
         piece,
-        text::part(text, 0, n),
+        places::part(text, 0, n),
         ring,
         answers,
     );

@@ -24,10 +24,10 @@ const LARGEST_TENTH: u64 = 1844674407370955161;
 
 // A second of 20 digits, in two parts: it is below 2^64.
 fn long_second(s: &[u8]) -> Number {
-    let Number::Value(n) = number::decimal(text::part(s, 0, 19), 19) else {
+    let Number::Value(n) = number::decimal(places::part(s, 0, 19), 19) else {
         return Number::Bad;
     };
-    let Number::Value(d) = number::decimal(text::part(s, 19, 20), 1) else {
+    let Number::Value(d) = number::decimal(places::part(s, 19, 20), 1) else {
         return Number::Bad;
     };
     if LARGEST_TENTH < n {
@@ -80,10 +80,10 @@ fn record_of(key_text: &[u8], seconds: &[u8]) -> Record {
         return no_record();
     }
     let space = cut_off(seconds, 0, b' ');
-    let Number::Value(first) = second(text::part(seconds, 0, space.end)) else {
+    let Number::Value(first) = second(places::part(seconds, 0, space.end)) else {
         return no_record();
     };
-    let Number::Value(last) = second(text::part(seconds, space.next, seconds.len())) else {
+    let Number::Value(last) = second(places::part(seconds, space.next, seconds.len())) else {
         return no_record();
     };
     let entry = KeyRecord { key, first, last };
@@ -98,8 +98,8 @@ fn record_on(line: &[u8]) -> Record {
         return no_record();
     }
     record_of(
-        text::part(line, 0, KEY_LENGTH),
-        text::part(line, KEY_LENGTH + 1, line.len()),
+        places::part(line, 0, KEY_LENGTH),
+        places::part(line, KEY_LENGTH + 1, line.len()),
     )
 }
 
@@ -110,7 +110,7 @@ pub fn keys_of(text: &[u8]) -> Keys {
     while at < text.len() {
         line = following(line);
         let cut = cut_off(text, at, b'\n');
-        let r = record_on(text::part(text, at, cut.end));
+        let r = record_on(places::part(text, at, cut.end));
         if !r.good {
             return Keys {
                 good: false,

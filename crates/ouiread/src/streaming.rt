@@ -70,7 +70,7 @@ fn feed_piece(
     let mut turns = u64::MAX;
     while turns > 0 {
         turns -= 1;
-        let rest = text::part(piece, at, piece.len());
+        let rest = places::part(piece, at, piece.len());
         let fed = feed_rest(sitting, head, block, question, ring, rest);
         sitting = fed.sitting;
         if !fed.again {
@@ -132,7 +132,7 @@ pub fn read_all(
             block,
             question,
             ring,
-            text::part(piece, 0, filled.count),
+            places::part(piece, 0, filled.count),
         );
         if sitting.stopped {
             return sitting;

@@ -16,7 +16,7 @@ use Rattle.params.specs.BlockSigs.{bsigsOf}
 use Rattle.params.specs.HeadSig.{HeadSig, headSigOf, headSigIn, ReadsSig0}
 use Rattle.params.specs.Injection.{injectionOf, padded}
 use Rattle.params.specs.NameList.{NameList, nameListOf, namesIn, ReadsNames}
-use Rattle.text.specs.Place.{partOf}
+use Rattle.places.specs.Place.{partOf}
 use Rattle.params.specs.declared.bsigs.Bsigs.{Bsigs}
 use Rattle.params.specs.declared.injection.Injection.{Injection}
 use Rattle.params.specs.declared.names.NamesRead.{NamesRead}

@@ -13,9 +13,9 @@ use Rattle.stream.specs.Bytes.{isDigit, isQuoted}
 use Rattle.stream.specs.Numbers.{isDecimal}
 use Rattle.stream.specs.Signatures.{isSig0}
 use Rattle.stream.specs.Template.{Part, text, bytes, gap, Scanned, parts, unlike, scan, startsWith}
-use Rattle.text.specs.Place.{partOf}
+use Rattle.places.specs.Place.{partOf}
 use Rattle.text.proofs.SameLaws.{both-false}
-use Rattle.text.proofs.ScanLaws.{scan-text, scan-unlike, scan-end, scan-over}
+use Rattle.classes.proofs.ScanLaws.{scan-text, scan-unlike, scan-end, scan-over}
 use Rattle.params.specs.HeadSig.{headSigOf, headSigIn, ReadsSig0, noSig0}
 use Rattle.params.specs.Parts.{Inside, runBytes}
 use Rattle.params.specs.declared.parts.Run.{Run}

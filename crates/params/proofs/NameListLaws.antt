@@ -12,10 +12,10 @@ use lib.Seq.{drop-drop, append-snoc}
 use Rattle.stream.specs.Lines.{inFront}
 use Rattle.stream.specs.Signatures.{splitNames}
 use Rattle.stream.specs.Template.{run}
-use Rattle.text.specs.declared.spans.Span.{Span}
-use Rattle.text.proofs.RunLaws.{run-cons, run-le}
+use Rattle.places.specs.declared.Span.{Span}
+use Rattle.classes.proofs.RunLaws.{run-cons, run-le}
 use Rattle.params.specs.NameList.{isNameByte, noSpan, namesFrom, namesIn, nameList, nameListOf, SpansWithin}
-use Rattle.text.specs.Place.{partOf}
+use Rattle.places.specs.Place.{partOf}
 use Rattle.params.proofs.SpanLaws.{names-length, names-more, within-set}
 
 -- ---- the first name of a text: n bytes, and what comes after the space

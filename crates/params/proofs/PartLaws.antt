@@ -7,11 +7,11 @@ use native.Mathlib.Omega.{arith}
 use lib.ListN.{length, drop, length-drop}
 use Rattle.stream.specs.Bytes.{isBlank}
 use Rattle.stream.specs.Template.{Part, text, bytes, gap, Scanned, parts, unlike, keep, scan, run, startsWith}
-use Rattle.text.proofs.RunLaws.{run-le}
+use Rattle.classes.proofs.RunLaws.{run-le}
 use Rattle.text.proofs.SameLaws.{starts-within}
-use Rattle.text.proofs.ScanLaws.{scan-text, scan-unlike, scan-bytes-to, scan-gap-to, scan-end, scan-over}
+use Rattle.classes.proofs.ScanLaws.{scan-text, scan-unlike, scan-bytes-to, scan-gap-to, scan-end, scan-over}
 use Rattle.params.specs.Parts.{Inside, onward, Reads, GoesOn}
-use Rattle.text.specs.Place.{partOf}
+use Rattle.places.specs.Place.{partOf}
 use Rattle.params.specs.declared.parts.Run.{Run}
 
 abbrev pub noRun : Run

@@ -11,7 +11,7 @@ use lib.ListN.{length, getD, set}
 use lib.Seq.{getD-set-same, getD-set-other}
 use Rattle.stream.specs.Bytes.{sameName}
 use Rattle.stream.specs.Fields.{among, isDoubled}
-use Rattle.text.specs.declared.spans.Span.{Span}
+use Rattle.places.specs.declared.Span.{Span}
 use Rattle.params.specs.NameList.{spanBytes, noSpan, namesFrom, namesIn, SpansWithin}
 use Rattle.params.specs.declared.names.Names.{Names}
 

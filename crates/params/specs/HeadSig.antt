@@ -8,7 +8,7 @@ use Rattle.octets.specs.Choice.{pick}
 use Rattle.base64.specs.Base64.{bytesOf}
 use Rattle.stream.specs.Signatures.{isSig0, keyText, createdText, namesText, headSignatureText}
 use Rattle.stream.specs.Template.{Scanned}
-use Rattle.text.specs.Place.{partOf}
+use Rattle.places.specs.Place.{partOf}
 use Rattle.params.specs.declared.sig0.Sig0.{Sig0}
 
 -- a signature of a head, with its texts themselves

@@ -8,8 +8,8 @@ use lib.ListN.{length, getD}
 use Rattle.octets.specs.Choice.{pick}
 use Rattle.stream.specs.Limits.{nameLimit}
 use Rattle.stream.specs.Signatures.{splitNames}
-use Rattle.text.specs.declared.spans.Span.{Span}
-use Rattle.text.specs.Place.{partOf}
+use Rattle.places.specs.declared.Span.{Span}
+use Rattle.places.specs.Place.{partOf}
 use Rattle.params.specs.declared.names.Names.{Names}
 use Rattle.params.specs.declared.names.NamesRead.{NamesRead}
 

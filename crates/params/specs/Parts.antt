@@ -6,7 +6,7 @@ use Prim.Native.Nat.{ℕ, _≤_}
 use lib.ListN.{length, drop}
 use Rattle.octets.specs.Choice.{pick}
 use Rattle.stream.specs.Template.{Part, text, gap, Scanned, unlike, keep, scan}
-use Rattle.text.specs.Place.{partOf}
+use Rattle.places.specs.Place.{partOf}
 use Rattle.params.specs.declared.parts.Run.{Run}
 
 -- a run's places lie in the value

@@ -1,8 +1,8 @@
 // The value of `X-Ouinet-BSigs`: a key and the size of a block.
 use crate::limits;
 use crate::parts;
+use classes::Class;
 use number::Number;
-use text::Class;
 ghost use mathlib.Core.List.{[], _∷_};
 ghost use mathlib.Core.Path.{_≡_};
 ghost use Rattle.stream.specs.Signatures.{bsigsScan};

@@ -1,8 +1,8 @@
 // The value of `X-Ouinet-Injection`: an id and a time in seconds.
 use crate::limits;
 use crate::parts;
+use classes::Class;
 use number::Number;
-use text::Class;
 ghost use mathlib.Core.List.{[], _∷_};
 ghost use mathlib.Core.Path.{_≡_};
 ghost use Prim.Native.Nat.{_≤_};

@@ -1,6 +1,6 @@
 // The names that a signature lists, as places in their text.
 use crate::limits;
-use text::Span;
+use places::Span;
 ghost use mathlib.Core.Path.{_≡_};
 ghost use Prim.Native.Nat.{_+_};
 ghost use lib.ListN.{drop, length};
@@ -66,8 +66,8 @@ fn name_end(text: &[u8], from: usize) -> usize
 fn same_names(text: &[u8], a: Span, b: Span) -> bool
     ensures { λ r. ⌜ r ≡ sameName (spanBytes (now (text .entry)) a) (spanBytes (now (text .entry)) b) ⌝ }
 {
-    let name = text::part(text, a.start, a.end);
-    let other = text::part(text, b.start, b.end);
+    let name = places::part(text, a.start, a.end);
+    let other = places::part(text, b.start, b.end);
     text::same_name(name, other)
 }
 
@@ -75,7 +75,7 @@ fn same_names(text: &[u8], a: Span, b: Span) -> bool
 pub fn is_doubled(text: &[u8], n: Names) -> bool
     ensures { λ r. ⌜ r ≡ isDoubled (namesIn (now (text .entry)) n) ⌝ }
 {
-    let count = text::least(n.count, limits::NAME_LIMIT);
+    let count = places::least(n.count, limits::NAME_LIMIT);
     let mut i = 0;
     'pairs: while i < count {
         let mut j = i + 1;

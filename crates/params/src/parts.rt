@@ -1,6 +1,6 @@
 // A value gone through part by part, as a template has it. Each function reads the template's next parts at a place and
 // answers with the run among them that is kept, and with the place where the parts after them start.
-use text::Class;
+use classes::Class;
 ghost use mathlib.Core.List.{[], _∷_};
 ghost use mathlib.Core.Path.{_≡_};
 ghost use Prim.Native.Nat.{_≤_};
@@ -8,7 +8,7 @@ ghost use lib.ListN.{length};
 ghost use Rattle.stream.specs.Signatures.{keyParts};
 ghost use Rattle.stream.specs.Template.{text, bytes};
 ghost use Rattle.params.specs.Parts.{Inside, Reads, GoesOn, runBytes};
-ghost use Rattle.text.specs.Class.{classOf};
+ghost use Rattle.classes.specs.Class.{classOf};
 
 // The run from `start` up to `end`, and the place `next` after it. All is zero where the value has other parts there.
 pub struct Run {
@@ -32,7 +32,7 @@ pub(crate) fn run_after(value: &[u8], at: usize, before: &[u8], c: Class) -> Run
         };
     }
     let start = at + before.len();
-    let end = text::run_end(value, start, c);
+    let end = classes::run_end(value, start, c);
     Run {
         good: true,
         start,
@@ -58,7 +58,7 @@ pub(crate) fn past_mark(value: &[u8], run: Run, mark: &[u8]) -> Run
             next: 0,
         };
     }
-    let next = text::run_end(value, at + mark.len(), Class::Blank);
+    let next = classes::run_end(value, at + mark.len(), Class::Blank);
     Run {
         good: true,
         start: run.start,
@@ -80,5 +80,5 @@ pub fn key_part(value: &[u8]) -> Run
 pub(crate) fn bytes_of(value: &[u8], run: Run) -> &[u8]
     ensures { λ r. ⌜ now r ≡ runBytes (now (value .entry)) run ⌝ }
 {
-    text::part(value, run.start, run.end)
+    places::part(value, run.start, run.end)
 }

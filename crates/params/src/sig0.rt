@@ -2,8 +2,8 @@
 use crate::limits;
 use crate::parts;
 use crate::parts::Run;
+use classes::Class;
 use number::Number;
-use text::Class;
 ghost use mathlib.Core.List.{[], _∷_, map};
 ghost use mathlib.Core.Path.{_≡_};
 ghost use Rattle.stream.specs.Signatures.{sig0Scan};

@@ -8,7 +8,7 @@ use native.Mathlib.Omega.{arith}
 use Prim.Native.Nat.{ℕ, _+_, _≤_, min}
 use types.Run.{OneOf, miss}
 use Rattle.chunk.specs.Place.{largest}
-use Rattle.chunk.specs.declared.places.BlockNumber.{BlockNumber}
+use Rattle.chunk.specs.declared.offsets.BlockNumber.{BlockNumber}
 use Rattle.octets.specs.Choice.{pick}
 use Rattle.steps.specs.Desk.{Desk, desk, goesOn, nextOf, Next, on, stop, refuse}
 use Rattle.steps.specs.declared.state.Phase.{Phase}

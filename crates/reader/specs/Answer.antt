@@ -2,7 +2,7 @@
 use mathlib.Core.Bool.{Bool}
 use Prim.Native.Nat.{ℕ, _+_, min}
 use Rattle.chunk.specs.Place.{largest}
-use Rattle.chunk.specs.declared.places.BlockNumber.{BlockNumber}
+use Rattle.chunk.specs.declared.offsets.BlockNumber.{BlockNumber}
 use Rattle.octets.specs.Choice.{pick}
 use Rattle.steps.specs.Desk.{Desk, desk, pending, refuse}
 use Rattle.steps.specs.Push.{announced, bodyWith, offsetNow}

@@ -5,7 +5,7 @@ use mathlib.Core.List.{List}
 use Prim.Native.Nat.{ℕ}
 use lib.Dec.{leb}
 use lib.ListN.{length}
-use Rattle.chunk.specs.declared.places.BlockNumber.{BlockNumber}
+use Rattle.chunk.specs.declared.offsets.BlockNumber.{BlockNumber}
 use Rattle.stream.specs.Limits.{headLimit, blockLimit}
 use Rattle.steps.specs.Desk.{Desk, desk, Next, on, stop, noSignature}
 use Rattle.steps.specs.declared.state.Phase.{Phase}

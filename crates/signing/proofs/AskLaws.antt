@@ -6,9 +6,9 @@ use native.Mathlib.Nat.{le-trans}
 use lib.ListN.{length, drop}
 use Rattle.stream.specs.Head.{headOf, blockSize, injectionId, headSignature, signedOf, signingString}
 use Rattle.stream.proofs.SigningSize.{signing-fits′}
-use Rattle.text.specs.Place.{partOf}
-use Rattle.text.specs.Writing.{Placed, placed, wrote}
-use Rattle.text.proofs.WritingLaws.{wrote-front}
+use Rattle.places.specs.Place.{partOf}
+use Rattle.places.specs.Writing.{Placed, placed, wrote}
+use Rattle.places.proofs.WritingLaws.{wrote-front}
 use Rattle.fields.specs.Table.{fieldsIn}
 use Rattle.params.specs.NameList.{namesIn}
 use Rattle.params.specs.declared.bsigs.Bsigs.{Bsigs}

@@ -11,8 +11,8 @@ use Rattle.stream.specs.Fields.{valueOf}
 use Rattle.stream.specs.Lines.{Field}
 use Rattle.stream.specs.Signatures.{listedFields, responseStatusName, createdName}
 use Rattle.stream.specs.Signing.{signedFields, signingLine, joined}
-use Rattle.text.specs.Writing.{placed, wrote}
-use Rattle.text.proofs.WritingLaws.{wrote-more, wrote-nil}
+use Rattle.places.specs.Writing.{placed, wrote}
+use Rattle.places.proofs.WritingLaws.{wrote-more, wrote-nil}
 use Rattle.signing.specs.Writing.{lineOf, following, stringOf}
 
 -- ---- a line

@@ -93,9 +93,9 @@ fn ask(text: &[u8], head: HeadRead, key: usize, question: &mut [u8]) -> Judged
     let sig0 = signed.sig0;
     let bsigs = signed.bsigs;
     let injection = signed.injection;
-    let list = text::part(text, sig0.names_start, sig0.names_end);
-    let created = text::part(text, sig0.created_start, sig0.created_end);
-    let digits = text::part(text, 9, 12);
+    let list = places::part(text, sig0.names_start, sig0.names_end);
+    let created = places::part(text, sig0.created_start, sig0.created_end);
+    let digits = places::part(text, 9, 12);
     let length = string::put_string(text, table, list, names, digits, created, question);
     let signature = sig0.signature;
     let id = injection.id;

@@ -3,13 +3,13 @@
 ghost use mathlib.Core.List.{_∷_};
 ghost use mathlib.Core.Path.{_≡_};
 ghost use Rattle.stream.specs.Bytes.{lowered};
-ghost use Rattle.text.specs.Writing.{placed, wrote};
+ghost use Rattle.places.specs.Writing.{placed, wrote};
 ghost use Rattle.signing.specs.Writing.{lineOf};
 
 fn put_lower(out: &mut [u8], at: usize, bytes: &[u8]) -> usize
     ensures { λ r. ⌜ placed r (now (out .exit)) ≡ wrote (now (out .entry)) at (lowered (now (bytes .entry))) ⌝ }
 {
-    let end = text::least(bytes.len(), text::less(out.len(), at));
+    let end = places::least(bytes.len(), places::less(out.len(), at));
     let mut i = 0;
     while i < end {
         out[at + i] = text::lower(bytes[i]);
@@ -22,14 +22,14 @@ pub(crate) fn put_line(out: &mut [u8], at: usize, name: &[u8], value: &[u8]) -> 
     ensures { λ r. ⌜ placed r (now (out .exit)) ≡ wrote (now (out .entry)) at (lineOf (now (name .entry)) (now (value .entry))) ⌝ }
 {
     let colon = put_lower(out, at, name);
-    let start = text::put(out, colon, b": ");
-    text::put(out, start, value)
+    let start = places::put(out, colon, b": ");
+    places::put(out, start, value)
 }
 
 // The same with a line feed in front.
 pub(crate) fn put_next(out: &mut [u8], at: usize, name: &[u8], value: &[u8]) -> usize
     ensures { λ r. ⌜ placed r (now (out .exit)) ≡ wrote (now (out .entry)) at (10 ∷ lineOf (now (name .entry)) (now (value .entry))) ⌝ }
 {
-    let start = text::put(out, at, b"\n");
+    let start = places::put(out, at, b"\n");
     put_line(out, start, name, value)
 }

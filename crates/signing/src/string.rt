@@ -4,7 +4,7 @@ use crate::line;
 use fields::Fields;
 use params::Names;
 ghost use mathlib.Core.Path.{_≡_};
-ghost use Rattle.text.specs.Writing.{placed, wrote};
+ghost use Rattle.places.specs.Writing.{placed, wrote};
 ghost use Rattle.signing.specs.Writing.{linesIn, stringIn};
 
 // The fields that the list names after its first two, each on a line of its own.

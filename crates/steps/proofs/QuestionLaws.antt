@@ -6,7 +6,7 @@ use Prim.Native.Nat.{ℕ, _-_, min}
 use lib.Dec.{eqb}
 use lib.ListN.{length, take}
 use Rattle.chunk.specs.Writing.{messageWritten}
-use Rattle.chunk.specs.declared.places.ByteOffset.{ByteOffset}
+use Rattle.chunk.specs.declared.offsets.ByteOffset.{ByteOffset}
 use Rattle.number.specs.Writing.{written}
 use Rattle.octets.specs.Choice.{pick}
 use Rattle.stream.specs.Blocks.{chained, blockMessage}

@@ -8,8 +8,8 @@ use Prim.Native.Nat.{ℕ, _+_, _-_, _≤_, min}
 use lib.ListN.{length, take, length-take}
 use lib.Seq.{paste, take-take}
 use types.Run.{OneOf, miss}
-use Rattle.text.specs.Writing.{placed, wrote}
-use Rattle.text.proofs.WritingLaws.{next-is, bytes-are}
+use Rattle.places.specs.Writing.{placed, wrote}
+use Rattle.places.proofs.WritingLaws.{next-is, bytes-are}
 use Rattle.steps.specs.Desk.{inPhase}
 use Rattle.steps.specs.Skip.{room, Skip, skipTo, skippedData, skippedAt}
 use Rattle.steps.specs.declared.state.Phase.{Phase}

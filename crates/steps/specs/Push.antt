@@ -13,7 +13,7 @@ use Rattle.chunk.specs.Writing.{messageWritten}
 use Rattle.chunk.specs.declared.judging.Line.{Line}
 use Rattle.chunk.specs.declared.judging.LineAnswer.{LineAnswer}
 use Rattle.chunk.specs.declared.judging.LineAnswer.the-variants as A
-use Rattle.chunk.specs.declared.places.ByteOffset.{ByteOffset}
+use Rattle.chunk.specs.declared.offsets.ByteOffset.{ByteOffset}
 use Rattle.number.specs.Writing.{Written}
 use Rattle.stream.specs.Blocks.{isWholeLine, chained, blockMessage}
 use Rattle.stream.specs.Bytes.{same}

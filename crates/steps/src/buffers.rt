@@ -6,7 +6,7 @@ ghost use Rattle.steps.specs.Desk.{cleared};
 pub(crate) fn clear(block: &mut [u8], count: usize)
     ensures { λ _. ⌜ now (block .exit) ≡ cleared count (now (block .entry)) ⌝ }
 {
-    let end = text::least(count, block.len());
+    let end = places::least(count, block.len());
     let mut i = 0;
     while i < end {
         block[i] = 0;

@@ -56,7 +56,7 @@ fn ask(
 ) -> Stepped
     ensures { λ s. ⌜ ((h : List ℕ) → nextOf s h (now (block .entry)) (now (question .exit)) ≡ asked (desk r h (now (block .entry)) (now (question .entry))) size next signature) ⌝ }
 {
-    let end = text::least(size, block.len());
+    let end = places::least(size, block.len());
     let number = r.number;
     let before = r.hash;
     let hash = chunk::chain(number, before, &block[0..end]);

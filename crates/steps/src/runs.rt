@@ -14,9 +14,9 @@ pub struct Passed {
 fn skip_data(r: Reader, block: &mut [u8], have: usize, size: usize, rest: &[u8]) -> Passed
     ensures { λ s. ⌜ passedOf s (now (block .exit)) ≡ skippedData have size r (now (block .entry)) (now (rest .entry)) ⌝ }
 {
-    let most = text::less(text::less(size, have), 1);
-    let end = text::least(most, rest.len());
-    let next = text::put(block, have, &rest[0..end]);
+    let most = places::less(places::less(size, have), 1);
+    let end = places::least(most, rest.len());
+    let next = places::put(block, have, &rest[0..end]);
     let reader = in_phase(r, Phase::Data { have: next, size });
     Passed {
         reader,

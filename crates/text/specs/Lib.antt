@@ -1,5 +1,1 @@
-pub mod Class
 pub mod Line
-pub mod Span
-pub mod Place
-pub mod Writing

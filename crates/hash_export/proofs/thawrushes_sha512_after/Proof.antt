@@ -9,8 +9,8 @@ use denote.Ref.{now}
 use native.Mathlib.Omega.{arith}
 use lib.ListN.{length, drop-of-length-le}
 use Rattle.hash.specs.Sha512.{sha512}
-use Rattle.text.specs.Writing.{Placed, placed, wrote}
-use Rattle.text.proofs.WritingLaws.{wrote-front}
+use Rattle.places.specs.Writing.{Placed, placed, wrote}
+use Rattle.places.proofs.WritingLaws.{wrote-front}
 use Rattle.hash_export.specs.Export.{made, answered}
 use Rattle.hash_export.proofs.thawrushes_sha512_after.Statement.{statement}
 use Rattle.hash_export.proofs.thawrushes_sha512_after.Tie as tie

@@ -2,7 +2,7 @@
 use mathlib.Core.List.{[], _∷_}
 use mathlib.Core.Path.{_∙_}
 use borrow.Author.Needs.{needs}
-use Rattle.text.proofs.WritingLaws.{wrote-more}
+use Rattle.places.proofs.WritingLaws.{wrote-more}
 use Rattle.chunk.proofs.messages.join.Statement.{statement}
 use Rattle.chunk.proofs.messages.join.Tie as tie
 

@@ -11,7 +11,7 @@ use lib.ListN.{length, drop}
 use Rattle.octets.specs.Octets.{octets}
 use Rattle.stream.specs.Bytes.{isTchar, isText}
 use Rattle.stream.specs.Template.{run, startsWith}
-use Rattle.text.specs.Class.{classOf}
+use Rattle.classes.specs.Class.{classOf}
 use Rattle.fields.proofs.FieldLineLaws.{no-name, no-colon, colon-within, no-text, reads-none, value-ordered, value-within, reads-good}
 use Rattle.fields.proofs.line.field_line.Statement.{statement}
 use Rattle.fields.proofs.line.field_line.Tie as tie

@@ -10,7 +10,7 @@ use lib.ListN.{length, drop}
 use Rattle.octets.specs.Octets.{octets}
 use Rattle.stream.specs.Bytes.{isDigit, isText}
 use Rattle.stream.specs.Template.{run, startsWith}
-use Rattle.text.specs.Class.{classOf}
+use Rattle.classes.specs.Class.{classOf}
 use Rattle.fields.proofs.StatusLaws.{no-version, no-digits, no-space, no-reason, is-status}
 use Rattle.fields.proofs.line.is_status_line.Statement.{statement}
 use Rattle.fields.proofs.line.is_status_line.Tie as tie

@@ -8,7 +8,7 @@ use denote.Ref.{now}
 use Rattle.stream.specs.Bytes.{sameName}
 use Rattle.stream.specs.Fields.{among, hasField, namesOf, valueOf}
 use Rattle.stream.specs.Lines.{Field}
-use Rattle.text.specs.Place.{partOf}
+use Rattle.places.specs.Place.{partOf}
 use Rattle.fields.specs.Table.{fieldsFrom, fieldsIn}
 use Rattle.fields.proofs.TableLaws.{namesFrom, all-from, among-hit, among-next, among-out, value-hit, value-next, value-out}
 use Rattle.fields.proofs.lookup.find.Statement.{statement}

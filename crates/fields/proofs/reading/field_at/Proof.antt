@@ -1,6 +1,6 @@
 -- The line's places, moved by where it begins. Assumes nothing.
 use borrow.Author.Needs.{needs}
-use Rattle.text.specs.Place.{partOf}
+use Rattle.places.specs.Place.{partOf}
 use Rattle.fields.proofs.FillLaws.{reads-moved}
 use Rattle.fields.proofs.reading.field_at.Statement.{statement}
 use Rattle.fields.proofs.reading.field_at.Tie as tie

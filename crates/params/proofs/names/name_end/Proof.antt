@@ -8,7 +8,7 @@ use denote.Ref.{now}
 use lib.ListN.{length, drop}
 use Rattle.octets.specs.Choice.{pick}
 use Rattle.stream.specs.Template.{run}
-use Rattle.text.proofs.RunLaws.{run-on, run-off, run-out}
+use Rattle.classes.proofs.RunLaws.{run-on, run-off, run-out}
 use Rattle.params.specs.NameList.{isNameByte}
 use Rattle.params.proofs.names.name_end.Statement.{statement}
 use Rattle.params.proofs.names.name_end.Tie as tie

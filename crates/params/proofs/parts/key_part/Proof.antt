@@ -1,5 +1,5 @@
 -- The key's run, and what comes after it: each call goes on where the one before ended. Assumes nothing.
-use Rattle.text.specs.Class.{classOf}
+use Rattle.classes.specs.Class.{classOf}
 use borrow.Author.Needs.{needs}
 use Rattle.params.proofs.parts.key_part.Statement.{statement}
 use Rattle.params.proofs.parts.key_part.Tie as tie

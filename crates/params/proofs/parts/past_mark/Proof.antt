@@ -1,7 +1,7 @@
 -- The text and the gap, by what stands after the run. Assumes nothing.
 use mathlib.Core.Path.{sym, _∙_}
 use borrow.Author.Tests.{not-true, not-false}
-use Rattle.text.specs.Class.{classOf}
+use Rattle.classes.specs.Class.{classOf}
 use Rattle.params.proofs.PartLaws.{mark-skipped, mark-missing, mark-there}
 use borrow.Author.Needs.{needs}
 use Rattle.params.proofs.parts.past_mark.Statement.{statement}

@@ -7,7 +7,7 @@ use borrow.Author.Tests.{not-true, not-false}
 use denote.Ref.{now}
 use lib.ListN.{drop}
 use Rattle.octets.specs.Octets.{octets}
-use Rattle.text.specs.Class.{classOf}
+use Rattle.classes.specs.Class.{classOf}
 use Rattle.stream.specs.Bytes.{isDigit, isQuoted}
 use Rattle.stream.specs.Signatures.{sig0Scan}
 use Rattle.stream.specs.Template.{text, bytes, gap, Scanned, keep, scan}

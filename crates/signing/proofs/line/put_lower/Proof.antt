@@ -8,8 +8,8 @@ use lib.ListN.{length, length-set}
 use lib.Seq.{paste, paste-zero}
 use Rattle.stream.specs.Bytes.{lowered}
 use Rattle.stream.proofs.Truth.{lowered-length}
-use Rattle.text.specs.Writing.{room}
-use Rattle.text.proofs.WritingLaws.{put-turn, put-end}
+use Rattle.places.specs.Writing.{room}
+use Rattle.places.proofs.WritingLaws.{put-turn, put-end}
 use Rattle.signing.proofs.StringLaws.{lower-at}
 use Rattle.signing.proofs.line.put_lower.Statement.{statement}
 use Rattle.signing.proofs.line.put_lower.Tie as tie

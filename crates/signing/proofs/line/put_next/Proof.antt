@@ -1,7 +1,7 @@
 -- A line feed, and the line after it. Assumes nothing.
 use mathlib.Core.List.{[], _∷_}
 use mathlib.Core.Path.{_∙_}
-use Rattle.text.proofs.WritingLaws.{wrote-more}
+use Rattle.places.proofs.WritingLaws.{wrote-more}
 use borrow.Author.Needs.{needs}
 use Rattle.signing.proofs.line.put_next.Statement.{statement}
 use Rattle.signing.proofs.line.put_next.Tie as tie

@@ -11,8 +11,8 @@ use Rattle.head.proofs.NameLaws.{names-count}
 use Rattle.params.specs.NameList.{namesIn}
 use Rattle.stream.specs.Lines.{Field}
 use Rattle.stream.specs.Signing.{signedFields}
-use Rattle.text.specs.Writing.{wrote}
-use Rattle.text.proofs.WritingLaws.{same-size}
+use Rattle.places.specs.Writing.{wrote}
+use Rattle.places.proofs.WritingLaws.{same-size}
 use Rattle.signing.specs.Writing.{following}
 use Rattle.signing.proofs.StringLaws.{turn-written, turns-end}
 use Rattle.signing.proofs.string.put_fields.Statement.{statement}

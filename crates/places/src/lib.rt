@@ -1,0 +1,51 @@
+// Numbers as places in a text, whatever they are: the bytes between two places, and bytes written from a place on.
+ghost use mathlib.Core.Path.{_≡_};
+ghost use Prim.Native.Nat.{_-_, min};
+ghost use Rattle.places.specs.Place.{Clips, partOf};
+
+mod writing; // bytes written into a buffer
+
+pub use writing::put;
+
+// From `start` up to `end`, which is not part of it.
+pub struct Span {
+    pub start: usize,
+    pub end: usize,
+}
+
+pub fn least(a: usize, b: usize) -> usize
+    ensures { λ r. ⌜ r ≡ min a b ⌝ }
+{
+    if a < b { a } else { b }
+}
+
+// The difference, 0 where b is the larger.
+pub fn less(a: usize, b: usize) -> usize
+    ensures { λ r. ⌜ r ≡ a - b ⌝ }
+{
+    if a < b {
+        return 0;
+    }
+    a - b
+}
+
+// The text from `start` up to `end`, as far as it goes, by places that lie within it.
+pub fn clip(text: &[u8], start: usize, end: usize) -> Span
+    ensures { λ r. ⌜ Clips (now (text .entry)) start end r ⌝ }
+{
+    let stop = least(end, text.len());
+    if stop <= start {
+        return Span { start: 0, end: 0 };
+    }
+    Span { start, end: stop }
+}
+
+// The bytes themselves.
+pub fn part(text: &[u8], start: usize, end: usize) -> &[u8]
+    ensures { λ r. ⌜ now r ≡ partOf (now (text .entry)) start end ⌝ }
+{
+    let s = clip(text, start, end);
+    let a = s.start;
+    let b = s.end;
+    &text[a..b]
+}
