@@ -51,31 +51,31 @@ enum-told-8 c = search needs
 
 returns : tie.Need-returns
 unfolding classOf
-returns c = cc
+returns c = rw (c .before .enum-told .given .1) (c .is-tchar .ensures)
 
 returns-2 : tie.Need-returns-2
 unfolding classOf
-returns-2 c = cc
+returns-2 c = rw (c .before .enum-told2 .given .1) (c .is-text .ensures)
 
 returns-3 : tie.Need-returns-3
 unfolding classOf
-returns-3 c = cc
+returns-3 c = rw (c .before .enum-told3 .given .1) (c .is-digit .ensures)
 
 returns-4 : tie.Need-returns-4
 unfolding classOf
-returns-4 c = cc
+returns-4 c = rw (c .before .enum-told4 .given .1) (c .is-hex .ensures)
 
 returns-5 : tie.Need-returns-5
 unfolding classOf
-returns-5 c = cc
+returns-5 c = rw (c .before .enum-told5 .given .1) (c .is-id-byte .ensures)
 
 returns-6 : tie.Need-returns-6
 unfolding classOf
-returns-6 c = cc
+returns-6 c = rw (c .before .enum-told6 .given .1) (c .is-quoted .ensures)
 
 returns-7 : tie.Need-returns-7
 unfolding classOf
-returns-7 c = cc
+returns-7 c = rw (c .before .enum-told7 .given .1) (c .is-blank .ensures)
 
 returns-8 : tie.Need-returns-8
 unfolding classOf

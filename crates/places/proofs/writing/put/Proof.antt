@@ -1,9 +1,9 @@
 -- The bytes passed are in their places, and the rest of the buffer is as it was. Assumes nothing.
 use borrow.Author.Needs.{needs}
 use denote.Ref.{now}
-use mathlib.Core.Path.{_≡_, refl}
+use mathlib.Core.Path.{_≡_, refl, ap, _∙_}
 use native.Mathlib.Omega.{arith}
-use Prim.Native.Nat.{_-_, _≤_}
+use Prim.Native.Nat.{_-_, _≤_, min}
 use lib.ListN.{length, length-set}
 use lib.Seq.{paste, paste-zero}
 use Rattle.places.specs.Writing.{room}
@@ -27,7 +27,7 @@ least-requires c κs = search needs
 loop-holds : tie.Need-loop-holds Inv-loop μ-loop
 loop-holds c =
     let a = c .before .before .before .before .args in
-    (omega arith, cc, refl, paste-zero (now (a .out)) (a .at) (now (a .bytes)))
+    (omega arith, c .least .ensures ∙ ap (min _) (c .before .less .ensures), refl, paste-zero (now (a .out)) (a .at) (now (a .bytes)))
 
 shared-slice-read-out : tie.Need-shared-slice-read-out Inv-loop μ-loop
 shared-slice-read-out c = search needs

@@ -1,5 +1,6 @@
 -- Two line ends, one after the other, are the text's last four bytes. Assumes nothing.
-use mathlib.Core.Path.{sym}
+use mathlib.Core.Path.{sym, ap₂, _∙_}
+use mathlib.Core.Bool.{_&&_}
 use mathlib.Core.List.{_++_}
 use Rattle.stream.specs.Lines.{crlf}
 use Rattle.text.proofs.LineLaws.{ends-twice, ends-short}
@@ -23,7 +24,7 @@ crlf-at-requires-2 : tie.Need-crlf-at-requires-2
 crlf-at-requires-2 c κs = search needs
 
 returns-2 : tie.Need-returns-2
-returns-2 c = cc (ends-twice _ (c .before .before .if1 .left))
+returns-2 c = ap₂ _&&_ (c .before .crlf-at .ensures) (c .crlf-at2 .ensures) ∙ sym (ends-twice _ (c .before .before .if1 .left))
 
 pub ends-twice-spec : {M : Type 1} → statement M
 ends-twice-spec =
