@@ -13,11 +13,11 @@ use Rattle.stream.specs.Events.{Question, Release, LastWord}
 use Rattle.stream.specs.Lines.{Field}
 use Rattle.stream.specs.Ring.{Ring}
 use Rattle.stream.specs.Stream.{Context, rules}
-use Rattle.steps.specs.Desk.{Desk, Next}
-use Rattle.steps.specs.Run.{Fed, runOf}
-use Rattle.steps.specs.Run as Run
-use Rattle.steps.specs.declared.state.Phase.{Phase}
-use Rattle.steps.specs.declared.state.Word as Steps
+use Rattle.state.specs.Desk.{Desk, Next}
+use Rattle.state.specs.Run.{Fed, runOf}
+use Rattle.state.specs.Run as Run
+use Rattle.state.specs.declared.phase.Phase.{Phase}
+use Rattle.state.specs.declared.word.Word as Steps
 use Rattle.reader.specs.Feed.{pushAt, pushByte}
 use Rattle.agreement.specs.Plain.{toldEvent}
 use Rattle.agreement.specs.Run.{wordSeen}

@@ -22,14 +22,14 @@ use Rattle.stream.specs.Stream.{Show, Past, after, Context, rules, blockOffset,
 use Rattle.stream.specs.Stream as C
 use Rattle.stream.proofs.Sound.{not-whole-empty}
 use Rattle.head.proofs.ValueLaws.{handed-signed}
-use Rattle.steps.specs.Desk.{Desk, desk, pending, refuse}
+use Rattle.state.specs.Desk.{Desk, desk, pending, refuse}
 use Rattle.steps.specs.Push as Push
-use Rattle.steps.specs.Run.{Fed}
-use Rattle.steps.specs.declared.state.Phase.{Phase}
-use Rattle.steps.proofs.BufferLaws.{length-cleared}
-use Rattle.reader.specs.Call.{given, isReading, unchanged, recalled}
+use Rattle.state.specs.Run.{Fed}
+use Rattle.state.specs.declared.phase.Phase.{Phase}
+use Rattle.state.proofs.BufferLaws.{length-cleared}
+use Rattle.calls.specs.Call.{given, isReading, unchanged, recalled}
 use Rattle.reader.specs.Feed.{fed, takenFrom}
-use Rattle.reader.specs.Answer.{accepting, headAnswer, following, releasing, blockAnswer, answerAt}
+use Rattle.calls.specs.Answer.{accepting, headAnswer, following, releasing, blockAnswer, answerAt}
 use Rattle.reader.specs.Parts.{blockPart}
 use Rattle.agreement.specs.Shown as Shown
 use Rattle.agreement.specs.Plain.{blockLeft, Handed, handedAfter}

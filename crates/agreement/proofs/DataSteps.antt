@@ -18,10 +18,10 @@ use Rattle.stream.specs.Ring.{Ring}
 use Rattle.stream.specs.Stream.{Show, Past, isWhole, judge, judgeDataEnd, rules}
 use Rattle.stream.specs.Stream as C
 use Rattle.stream.proofs.Sound.{SoundBlock, not-whole-empty}
-use Rattle.steps.specs.Desk.{Desk, desk, inPhase, on, moved, refuse}
-use Rattle.steps.specs.Push.{pushData, pushDataEnd}
-use Rattle.steps.specs.declared.state.Phase.{Phase}
-use Rattle.steps.specs.declared.state.Phase.the-variants as P
+use Rattle.state.specs.Desk.{Desk, desk, inPhase, on, moved, refuse}
+use Rattle.body_steps.specs.Data.{pushData, pushDataEnd}
+use Rattle.state.specs.declared.phase.Phase.{Phase}
+use Rattle.state.specs.declared.phase.Phase.the-variants as P
 use Rattle.agreement.proofs.Stands.{Gathered, Keeps, Counts, Lent, Under, Follows}
 use Rattle.agreement.proofs.Stands as F
 use Rattle.agreement.proofs.Gathering.{none-gathered, gather, short, still, keeps-on, counts-on, under-on}

@@ -19,14 +19,17 @@ use Rattle.stream.specs.Ring.{Ring, numberOf}
 use Rattle.stream.specs.Trailer.{isWholeTrailer, isTrailer}
 use Rattle.signing.specs.Judgement.{headJudged, noneAsked, judged}
 use Rattle.signing.specs.Judgement as J
-use Rattle.steps.specs.Desk.{Desk, desk, inPhase, Next, on, stop, refuse}
-use Rattle.steps.specs.Push.{pushData, pushDataEnd, firstAnswered, firstGathered, pushFirstLine, nextJudged, nextAnswered, nextGathered, pushNextLine, trailerGathered, pushTrailer}
+use Rattle.state.specs.Desk.{Desk, desk, inPhase, Next, on, stop, refuse}
+use Rattle.line_steps.specs.FirstLine.{firstAnswered, firstGathered, pushFirstLine}
+use Rattle.line_steps.specs.NextLine.{nextJudged, nextAnswered, nextGathered, pushNextLine}
+use Rattle.body_steps.specs.Data.{pushData, pushDataEnd}
+use Rattle.body_steps.specs.Trailer.{trailerGathered, pushTrailer}
 use Rattle.steps.specs.Push as Push
-use Rattle.steps.specs.Run.{follow, runOf}
-use Rattle.steps.specs.declared.state.Phase.{Phase}
-use Rattle.steps.specs.declared.state.Phase.the-variants as P
-use Rattle.reader.specs.Call.{isReading}
-use Rattle.reader.specs.HeadByte.{headAnswered, judgedAt, headGathered, pushHead}
+use Rattle.state.specs.Run.{follow, runOf}
+use Rattle.state.specs.declared.phase.Phase.{Phase}
+use Rattle.state.specs.declared.phase.Phase.the-variants as P
+use Rattle.calls.specs.Call.{isReading}
+use Rattle.head_steps.specs.HeadByte.{headAnswered, judgedAt, headGathered, pushHead}
 use Rattle.reader.specs.Feed.{pushAt, pushByte, fed}
 use Rattle.agreement.proofs.Refusals.{line-number, head-number, of-stream}
 use Rattle.agreement.specs.Due.{isMisuse}

@@ -12,9 +12,9 @@ use lib.Seq.{take-suc-set}
 use Rattle.stream.specs.Lines.{Field}
 use Rattle.stream.specs.Stream.{Show, Past, Context, isWhole}
 use Rattle.stream.proofs.Sound.{limitOf, whole-at-limit}
-use Rattle.steps.specs.Desk.{Desk, renewed}
-use Rattle.steps.specs.declared.state.Phase.{Phase}
-use Rattle.steps.specs.declared.state.Reader.{Reader}
+use Rattle.state.specs.Desk.{Desk, renewed}
+use Rattle.state.specs.declared.phase.Phase.{Phase}
+use Rattle.state.specs.declared.reader.Reader.{Reader}
 use Rattle.agreement.proofs.Stands.{Gathered, Keeps, Counts, Lent, Under}
 
 pub none-gathered : (buffer : List ℕ) → Gathered buffer 0 []

@@ -25,11 +25,11 @@ use Rattle.stream.proofs.SoundJudge.{SoundSays, judge-sound}
 use Rattle.head.proofs.ValueLaws.{handed-none}
 use Rattle.signing.specs.Judgement.{headJudged, noneAsked, judged}
 use Rattle.signing.specs.Judgement as J
-use Rattle.steps.specs.Desk.{Desk, desk, inPhase, on}
-use Rattle.steps.specs.declared.state.Phase.the-variants as P
-use Rattle.steps.specs.declared.state.Reader.{Reader}
-use Rattle.steps.specs.declared.state.Word.the-variants as W
-use Rattle.reader.specs.HeadByte.{asking, headAnswered, judgedAt, headGathered, pushHead}
+use Rattle.state.specs.Desk.{Desk, desk, inPhase, on}
+use Rattle.state.specs.declared.phase.Phase.the-variants as P
+use Rattle.state.specs.declared.reader.Reader.{Reader}
+use Rattle.state.specs.declared.word.Word.the-variants as W
+use Rattle.head_steps.specs.HeadByte.{asking, headAnswered, judgedAt, headGathered, pushHead}
 use Rattle.agreement.specs.Run.{wordSeen}
 use Rattle.agreement.proofs.Stands.{Gathered, Keeps, Lent, Follows}
 use Rattle.agreement.proofs.Stands as F

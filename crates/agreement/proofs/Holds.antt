@@ -15,11 +15,11 @@ use Rattle.stream.specs.Lines.{Field}
 use Rattle.stream.specs.Ring.{Ring}
 use Rattle.stream.specs.Stream.{Show, Past, Context}
 use Rattle.head.specs.Handing.{handedValue}
-use Rattle.steps.specs.Desk.{Desk}
-use Rattle.steps.specs.declared.state.Phase.{Phase}
-use Rattle.steps.specs.declared.state.Reader.{Reader}
-use Rattle.reader.specs.Call as R
-use Rattle.reader.specs.Call.{areRoomy, fits, isReading, unchanged, takingBack, recalled}
+use Rattle.state.specs.Desk.{Desk}
+use Rattle.state.specs.declared.phase.Phase.{Phase}
+use Rattle.state.specs.declared.reader.Reader.{Reader}
+use Rattle.calls.specs.Call as R
+use Rattle.calls.specs.Call.{areRoomy, fits, isReading, unchanged, takingBack, recalled}
 use Rattle.reader.specs.Parts.{blockPart}
 use Rattle.agreement.specs.Plain.{toldWord, Handed, handedAfter, shows}
 use Rattle.agreement.specs.Run.{isOfCall, wordSeen, seen}

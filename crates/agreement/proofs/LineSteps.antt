@@ -20,14 +20,16 @@ use Rattle.stream.specs.Stream as C
 use Rattle.stream.specs.Trailer.{isWholeTrailer, isTrailer}
 use Rattle.stream.proofs.Sound.{SoundShow, Sound, not-whole-empty}
 use Rattle.stream.proofs.SoundJudge.{SoundSays, judge-sound}
-use Rattle.steps.specs.Desk.{Desk, desk, inPhase, on, moved, refuse, noSignature}
-use Rattle.steps.specs.Desk as D
-use Rattle.steps.specs.Push.{lined, firstAnswered, firstGathered, pushFirstLine, trailerGathered, pushTrailer}
+use Rattle.state.specs.Desk.{Desk, desk, inPhase, on, moved, refuse, noSignature}
+use Rattle.state.specs.Desk as D
+use Rattle.line_steps.specs.FirstLine.{firstAnswered, firstGathered, pushFirstLine}
+use Rattle.body_steps.specs.Trailer.{trailerGathered, pushTrailer}
+use Rattle.state.specs.Desk.{lined}
 use Rattle.steps.specs.Push as Push
-use Rattle.steps.specs.declared.state.Phase.{Phase}
-use Rattle.steps.specs.declared.state.Phase.the-variants as P
-use Rattle.steps.specs.declared.state.Reader.{Reader}
-use Rattle.steps.specs.declared.state.Word.the-variants as W
+use Rattle.state.specs.declared.phase.Phase.{Phase}
+use Rattle.state.specs.declared.phase.Phase.the-variants as P
+use Rattle.state.specs.declared.reader.Reader.{Reader}
+use Rattle.state.specs.declared.word.Word.the-variants as W
 use Rattle.agreement.specs.Run.{wordSeen}
 use Rattle.agreement.proofs.Stands.{Gathered, Keeps, Counts, Lent, At, Follows}
 use Rattle.agreement.proofs.Stands as F

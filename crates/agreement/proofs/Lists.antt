@@ -24,12 +24,12 @@ use Rattle.stream.proofs.Sound.{not-whole-empty}
 use Rattle.stream.proofs.Truth.{left-holds, right-holds}
 use Rattle.head.specs.Handing.{handedValue}
 use Rattle.head.proofs.ValueLaws.{handed-none}
-use Rattle.steps.specs.Desk.{Desk, desk}
-use Rattle.steps.specs.declared.state.Reader.{Reader}
-use Rattle.reader.specs.Call as R
-use Rattle.reader.specs.Call.{areRoomy, isReading, unchanged, recalled}
+use Rattle.state.specs.Desk.{Desk, desk}
+use Rattle.state.specs.declared.reader.Reader.{Reader}
+use Rattle.calls.specs.Call as R
+use Rattle.calls.specs.Call.{areRoomy, isReading, unchanged, recalled}
 use Rattle.reader.specs.Feed.{takenFrom, feedOf}
-use Rattle.reader.specs.Answer.{answerOf, endOf}
+use Rattle.calls.specs.Answer.{answerOf, endOf}
 use Rattle.reader.specs.Parts.{freshReader, blockPart}
 use Rattle.agreement.specs.Plain.{Handed, nothing, handedAfter, shows, showing, plainlyShown}
 use Rattle.agreement.specs.Run.{Call, same, other, called, aside, runCall, wordSeen, seen, runFrom, run, plainCall, plainCalls}

@@ -8,13 +8,13 @@ use Rattle.ring.specs.Keys.{ringOf}
 use Rattle.ring.specs.declared.KeyRing.{KeyRing}
 use Rattle.sections.specs.Calls.{Request, feed, answer, end}
 use Rattle.stream.proofs.Truth.{left-holds}
-use Rattle.steps.specs.Desk.{Desk, Next, on, stop, refuse, pending}
-use Rattle.steps.specs.declared.state.Phase.{Phase}
-use Rattle.steps.specs.declared.state.Phase.the-variants as P
-use Rattle.reader.specs.Call as R
-use Rattle.reader.specs.Call.{fits, unchanged, given, recalled}
+use Rattle.state.specs.Desk.{Desk, Next, on, stop, refuse, pending}
+use Rattle.state.specs.declared.phase.Phase.{Phase}
+use Rattle.state.specs.declared.phase.Phase.the-variants as P
+use Rattle.calls.specs.Call as R
+use Rattle.calls.specs.Call.{fits, unchanged, given, recalled}
 use Rattle.reader.specs.Feed.{takenFrom, feedOf}
-use Rattle.reader.specs.Answer.{headAnswer, blockAnswer, answerAt, answerOf, endOf}
+use Rattle.calls.specs.Answer.{headAnswer, blockAnswer, answerAt, answerOf, endOf}
 use Rattle.agreement.specs.Run.{called}
 use Rattle.agreement.proofs.FineBytes.{Fine, fine-refuse, fine-run}
 use Rattle.agreement.specs.Due.{isAsking, isDue, isMisuse}

@@ -26,12 +26,13 @@ use Rattle.stream.proofs.MessageLaws.{message-length}
 use Rattle.stream.proofs.RulesHold.{rules-hold}
 use Rattle.stream.proofs.Sound.{SoundBlock}
 use Rattle.stream.proofs.SoundJudge.{SoundSays, judge-sound}
-use Rattle.steps.specs.Desk.{Desk, on}
-use Rattle.steps.specs.Push.{lined, offsetNow, nextJudged, hashNow, messageNow, nextAnswered, nextGathered, pushNextLine}
+use Rattle.state.specs.Desk.{Desk, on}
+use Rattle.line_steps.specs.NextLine.{offsetNow, nextJudged, hashNow, messageNow, nextAnswered, nextGathered, pushNextLine}
+use Rattle.state.specs.Desk.{lined}
 use Rattle.steps.specs.Push as Push
-use Rattle.steps.specs.declared.state.Phase.the-variants as P
-use Rattle.steps.specs.declared.state.Reader.{Reader}
-use Rattle.steps.specs.declared.state.Word.the-variants as W
+use Rattle.state.specs.declared.phase.Phase.the-variants as P
+use Rattle.state.specs.declared.reader.Reader.{Reader}
+use Rattle.state.specs.declared.word.Word.the-variants as W
 use Rattle.agreement.specs.Run.{wordSeen}
 use Rattle.agreement.proofs.Stands.{Gathered, Keeps, Lent, Under, Follows}
 use Rattle.agreement.proofs.Stands as F

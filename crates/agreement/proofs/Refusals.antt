@@ -17,9 +17,9 @@ use Rattle.stream.specs.Lines.{Field}
 use Rattle.stream.specs.Ring.{Ring}
 use Rattle.stream.specs.Rule.{Rule, firstBroken}
 use Rattle.stream.proofs.Truth.{left-holds, right-holds}
-use Rattle.steps.specs.Desk.{Desk, refuse}
-use Rattle.steps.specs.declared.state.Word.the-variants as W
-use Rattle.steps.proofs.BufferLaws.{length-cleared}
+use Rattle.state.specs.Desk.{Desk, refuse}
+use Rattle.state.specs.declared.word.Word.the-variants as W
+use Rattle.state.proofs.BufferLaws.{length-cleared}
 use Rattle.agreement.specs.Run.{isOfCall, wordSeen}
 use Rattle.agreement.proofs.Stands.{Lent, Follows}
 use Rattle.agreement.proofs.Stands as F

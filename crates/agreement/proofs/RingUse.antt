@@ -17,13 +17,16 @@ use Rattle.stream.specs.Limits.{lineLimit, ringLimit}
 use Rattle.stream.specs.Lines.{crlf}
 use Rattle.stream.specs.Ring.{Ring}
 use Rattle.stream.specs.Trailer.{isWholeTrailer, isTrailer}
-use Rattle.steps.specs.Desk.{Desk, Next, on, stop, refuse}
-use Rattle.steps.specs.Push.{pushData, pushDataEnd, firstAnswered, firstGathered, pushFirstLine, nextAnswered, nextGathered, pushNextLine, trailerGathered, pushTrailer}
+use Rattle.state.specs.Desk.{Desk, Next, on, stop, refuse}
+use Rattle.line_steps.specs.FirstLine.{firstAnswered, firstGathered, pushFirstLine}
+use Rattle.line_steps.specs.NextLine.{nextAnswered, nextGathered, pushNextLine}
+use Rattle.body_steps.specs.Data.{pushData, pushDataEnd}
+use Rattle.body_steps.specs.Trailer.{trailerGathered, pushTrailer}
 use Rattle.steps.specs.Push as Push
-use Rattle.steps.specs.Run.{follow, runOf}
-use Rattle.steps.specs.declared.state.Phase.{Phase}
-use Rattle.steps.specs.declared.state.Phase.the-variants as P
-use Rattle.reader.specs.Call.{recalled}
+use Rattle.state.specs.Run.{follow, runOf}
+use Rattle.state.specs.declared.phase.Phase.{Phase}
+use Rattle.state.specs.declared.phase.Phase.the-variants as P
+use Rattle.calls.specs.Call.{recalled}
 use Rattle.reader.specs.Feed.{pushAt, pushByte, takenFrom, feedOf}
 use Rattle.agreement.specs.Due.{isInHead}
 

@@ -5,7 +5,7 @@ use mathlib.Core.List.{List}
 use Prim.Native.Nat.{ℕ}
 use Rattle.ring.specs.declared.KeyRing.{KeyRing}
 use Rattle.sections.specs.Calls.{Request}
-use Rattle.reader.specs.Call.{areRoomy}
+use Rattle.calls.specs.Call.{areRoomy}
 use Rattle.agreement.specs.Loans.{haveRoom, ringFits, loanFits}
 
 pub room-same : (h b q : List ℕ) → areRoomy h b q ≡ haveRoom h b q

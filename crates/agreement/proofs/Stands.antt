@@ -22,12 +22,12 @@ use Rattle.stream.specs.Stream.{Show, Past, after, Context, isWhole, announced,
 use Rattle.stream.specs.Stream as C
 use Rattle.stream.proofs.Sound.{SoundShow, SoundBlock, Sound}
 use Rattle.head.specs.Handing.{handedValue}
-use Rattle.steps.specs.Desk.{Desk, Next}
-use Rattle.steps.specs.Desk as D
-use Rattle.steps.specs.declared.state.Phase.{Phase}
-use Rattle.steps.specs.declared.state.Phase.the-variants as P
-use Rattle.steps.specs.declared.state.Reader.{Reader}
-use Rattle.steps.specs.declared.state.Word as Steps
+use Rattle.state.specs.Desk.{Desk, Next}
+use Rattle.state.specs.Desk as D
+use Rattle.state.specs.declared.phase.Phase.{Phase}
+use Rattle.state.specs.declared.phase.Phase.the-variants as P
+use Rattle.state.specs.declared.reader.Reader.{Reader}
+use Rattle.state.specs.declared.word.Word as Steps
 use Rattle.agreement.specs.Plain.{toldEvent}
 use Rattle.agreement.specs.Run.{wordSeen}
 

@@ -9,9 +9,9 @@ use lib.ListN.{length}
 use Rattle.ring.specs.Keys.{ringOf}
 use Rattle.ring.specs.declared.KeyRing.{KeyRing}
 use Rattle.sections.specs.Calls.{feed}
-use Rattle.steps.specs.Desk.{Desk, Next, on, stop}
-use Rattle.steps.specs.Run.{follow, runOf}
-use Rattle.reader.specs.Call.{isReading, recalled}
+use Rattle.state.specs.Desk.{Desk, Next, on, stop}
+use Rattle.state.specs.Run.{follow, runOf}
+use Rattle.calls.specs.Call.{isReading, recalled}
 use Rattle.reader.specs.Feed.{pushByte, fed, takenFrom, feedOf}
 use Rattle.agreement.specs.Due.{Between}
 use Rattle.agreement.specs.Loans.{loanFits}

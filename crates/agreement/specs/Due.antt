@@ -3,11 +3,11 @@
 use mathlib.Core.Bool.{Bool, true, false}
 use Prim.Native.Nat.{ℕ, _≤_}
 use Rattle.sections.specs.Calls.{Request, feed, answer, end}
-use Rattle.steps.specs.declared.state.Phase.{Phase}
-use Rattle.steps.specs.declared.state.Phase.the-variants as P
-use Rattle.steps.specs.declared.state.Word as Steps
-use Rattle.steps.specs.declared.state.Word.the-variants as W
-use Rattle.reader.specs.Call.{isReading}
+use Rattle.state.specs.declared.phase.Phase.{Phase}
+use Rattle.state.specs.declared.phase.Phase.the-variants as P
+use Rattle.state.specs.declared.word.Word as Steps
+use Rattle.state.specs.declared.word.Word.the-variants as W
+use Rattle.calls.specs.Call.{isReading}
 use Rattle.agreement.specs.Run.{isOfCall}
 
 -- a question is open

@@ -13,12 +13,12 @@ use Rattle.sections.specs.Calls.{Request, feed, answer, end, Word, more, event,
 use Rattle.sections.specs.Calls as S
 use Rattle.stream.specs.Events.{Question, LastWord, closed, refused}
 use Rattle.head.specs.Handing.{handedValue}
-use Rattle.steps.specs.Desk.{Desk, desk}
-use Rattle.steps.specs.declared.state.Word.the-variants as W
-use Rattle.steps.specs.declared.state.Word as Steps
-use Rattle.reader.specs.Call as R
+use Rattle.state.specs.Desk.{Desk, desk}
+use Rattle.state.specs.declared.word.Word.the-variants as W
+use Rattle.state.specs.declared.word.Word as Steps
+use Rattle.calls.specs.Call as R
 use Rattle.reader.specs.Feed.{feedOf}
-use Rattle.reader.specs.Answer.{answerOf, endOf}
+use Rattle.calls.specs.Answer.{answerOf, endOf}
 use Rattle.reader.specs.Parts.{freshReader, blockPart}
 use Rattle.agreement.specs.Loans.{loanFits}
 use Rattle.agreement.specs.Shown.{Told, headAccepted, block, Shown}

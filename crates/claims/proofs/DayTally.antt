@@ -12,9 +12,9 @@ use Rattle.sections.specs.Reading.{Event, question, message, last, Log}
 use Rattle.sections.specs.Calls.{Word, more, event, misused}
 use Rattle.sections.specs.Resuming.{entry, placed}
 use Rattle.stream.specs.Events.{Question, Release, headAccepted, block, LastWord, closed, refused}
-use Rattle.steps.specs.Desk.{Desk, desk}
-use Rattle.steps.specs.declared.state.Word as Steps
-use Rattle.steps.specs.declared.state.Word.the-variants as W
+use Rattle.state.specs.Desk.{Desk, desk}
+use Rattle.state.specs.declared.word.Word as Steps
+use Rattle.state.specs.declared.word.Word.the-variants as W
 use Rattle.reader.specs.Parts.{freshReader}
 use Rattle.agreement.specs.Shown.{Told, outs}
 use Rattle.agreement.specs.Shown as S

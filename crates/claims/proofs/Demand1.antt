@@ -14,8 +14,8 @@ use Rattle.ring.specs.declared.KeyRing.{KeyRing}
 use Rattle.sections.specs.Calls.{Request, feed}
 use Rattle.stream.specs.Limits.{headLimit, blockLimit, ringLimit}
 use Rattle.head.proofs.ValueLaws.{room-small}
-use Rattle.steps.specs.Desk.{Desk}
-use Rattle.reader.specs.Call.{isReading, unchanged}
+use Rattle.state.specs.Desk.{Desk}
+use Rattle.calls.specs.Call.{isReading, unchanged}
 use Rattle.reader.specs.Feed.{feedOf}
 use Rattle.reader.specs.Parts.{blockPart}
 use Rattle.agreement.specs.Due.{isDue, isInHead, isMisuse, Between}

@@ -2,8 +2,8 @@
 use mathlib.Core.List.{List, [], _∷_}
 use Rattle.ring.specs.declared.KeyRing.{KeyRing}
 use Rattle.sections.specs.Calls.{Request}
-use Rattle.steps.specs.Desk.{Desk}
-use Rattle.reader.specs.Call as R
+use Rattle.state.specs.Desk.{Desk}
+use Rattle.calls.specs.Call as R
 use Rattle.reader_export.specs.Lists.{Ask, Seen, seenOf}
 use Rattle.agreement.specs.Run.{called}
 

@@ -2,13 +2,13 @@
 // `valueSeen` are what the claims say a caller sees. Each body is the call itself.
 use reader::Outcome;
 use ring::KeyRing;
-use steps::Reader;
+use state::Reader;
 ghost use mathlib.Core.List.{List};
 ghost use mathlib.Core.Path.{_≡_};
 ghost use Prim.Native.Nat.{ℕ};
 ghost use Rattle.sections.specs.Calls as C;
-ghost use Rattle.steps.specs.Desk.{desk};
-ghost use Rattle.reader.specs.Call.{made};
+ghost use Rattle.state.specs.Desk.{desk};
+ghost use Rattle.calls.specs.Call.{made};
 ghost use Rattle.agreement.specs.Run.{called, blockSeen, valueSeen};
 
 fn feed(

@@ -11,10 +11,10 @@ use lib.Dec.{leb}
 use lib.ListN.{length, drop, length-map}
 use lib.Seq.{sets, sets-eq, length-sets, drop-at}
 use Rattle.octets.specs.Choice.{pick}
-use Rattle.steps.specs.declared.state.Phase.{Phase}
-use Rattle.steps.specs.declared.state.Phase.the-variants as P
-use Rattle.steps.specs.declared.state.Reader.{Reader}
-use Rattle.steps.proofs.state.Reader as declared
+use Rattle.state.specs.declared.phase.Phase.{Phase}
+use Rattle.state.specs.declared.phase.Phase.the-variants as P
+use Rattle.state.specs.declared.reader.Reader.{Reader}
+use Rattle.state.proofs.reader.Reader as declared
 use Rattle.layout.specs.Parts.{bytesOf, allBytes}
 use Rattle.layout.specs.State.{stateSize, tagOf, firstOf, secondOf, refusalOf, phaseOf, encoded, stored, decoded}
 use Rattle.layout.proofs.PartLaws.{sets-next, long-next, long-bytes, long-all, concat, At, past, part-there, number-there}

@@ -5,8 +5,8 @@ use lib.Dec.{leb}
 use lib.ListN.{length}
 use lib.Seq.{sets}
 use Rattle.octets.specs.Choice.{pick}
-use Rattle.steps.specs.declared.state.Word.{Word}
-use Rattle.steps.specs.declared.state.Word.the-variants as W
+use Rattle.state.specs.declared.word.Word.{Word}
+use Rattle.state.specs.declared.word.Word.the-variants as W
 use Rattle.layout.specs.Parts.{allBytes}
 
 -- how many bytes a result takes

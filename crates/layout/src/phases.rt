@@ -1,5 +1,5 @@
 // A phase as three numbers: its tag, and the two counts that it carries, 0 where it carries none.
-use steps::Phase;
+use state::Phase;
 ghost use mathlib.Core.Path.{_≡_};
 ghost use Prim.Native.Nat.{_<_};
 ghost use Rattle.layout.specs.State.{tagOf, firstOf, secondOf, refusalOf, phaseOf};

@@ -2,7 +2,7 @@
 use crate::parts::put_numbers;
 use crate::state::put_64;
 use chunk::ByteOffset;
-use steps::Word;
+use state::Word;
 ghost use mathlib.Core.Path.{_≡_};
 ghost use Prim.Native.Nat.{_≤_};
 ghost use lib.ListN.{length};

@@ -14,8 +14,8 @@ use Rattle.ring.specs.Keys.{trustedOf, ringOf, keysWith, noRecord, noKeys}
 use Rattle.ring.specs.declared.KeyRecord.{KeyRecord}
 use Rattle.ring.specs.declared.KeyRing.{KeyRing}
 use Rattle.stream.specs.Limits.{ringLimit}
-use Rattle.steps.specs.Desk.{Desk}
-use Rattle.reader.specs.Call.{fits}
+use Rattle.state.specs.Desk.{Desk}
+use Rattle.calls.specs.Call.{fits}
 use Rattle.reader.specs.Feed.{feedOf}
 use Rattle.lent.specs.Table.{lentFeedOf, looked, placed, keysOf, withNext}
 

@@ -9,8 +9,8 @@ use Rattle.ring.specs.Keys.{trustedOf, keysWith, noRecord}
 use Rattle.ring.specs.declared.KeyRecord.{KeyRecord}
 use Rattle.ring.specs.declared.KeyRing.{KeyRing}
 use Rattle.stream.specs.Limits.{ringLimit}
-use Rattle.steps.specs.Desk.{Desk}
-use Rattle.reader.specs.Call.{Call, unchanged, fits, isReading, recalled}
+use Rattle.state.specs.Desk.{Desk}
+use Rattle.calls.specs.Call.{Call, unchanged, fits, isReading, recalled}
 use Rattle.reader.specs.Feed.{takenFrom}
 
 -- ---- a feed

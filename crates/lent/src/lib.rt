@@ -4,11 +4,11 @@ use reader::Outcome;
 use ring::KeyRecord;
 use ring::KeyRing;
 use ring::RING_LIMIT;
-use steps::Reader;
+use state::Reader;
 ghost use mathlib.Core.List.{[]};
 ghost use mathlib.Core.Path.{_≡_};
-ghost use Rattle.steps.specs.Desk.{desk};
-ghost use Rattle.reader.specs.Call.{made};
+ghost use Rattle.state.specs.Desk.{desk};
+ghost use Rattle.calls.specs.Call.{made};
 ghost use Rattle.lent.specs.Table.{looked, withNext, keysOf, lentFeedOf};
 
 // A ring of no records.

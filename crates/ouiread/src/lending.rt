@@ -2,13 +2,13 @@
 use reader::Outcome;
 use ring::KeyRecord;
 use ring::RING_LIMIT;
-use steps::Reader;
+use state::Reader;
 ghost use mathlib.Core.Path.{_≡_};
 ghost use Prim.Native.Nat.{min};
 ghost use lib.ListN.{take};
-ghost use Rattle.steps.specs.Desk.{desk};
+ghost use Rattle.state.specs.Desk.{desk};
 ghost use Rattle.stream.specs.Limits.{ringLimit};
-ghost use Rattle.reader.specs.Call.{made};
+ghost use Rattle.calls.specs.Call.{made};
 ghost use Rattle.lent.specs.Table.{lentFeedOf};
 
 // How many of the records are lent: a count is never over the room.

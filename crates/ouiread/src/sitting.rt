@@ -6,8 +6,8 @@ use crate::files::ABSENT;
 use crate::files::BODY;
 use crate::messages;
 use crate::tallying::counted;
-use steps::Reader;
-use steps::Word;
+use state::Reader;
+use state::Word;
 use tally::Tally;
 
 // The reader, the answers that are left, the file for the body, whether the program goes no further, whether an

@@ -11,7 +11,7 @@ use crate::sitting::tell;
 use crate::sitting::with_reader;
 use reader::Outcome;
 use ring::KeyRing;
-use steps::goes_on;
+use state::goes_on;
 
 // The sitting after a call, how many bytes of the piece are fed, and whether its rest is still to be fed.
 struct Fed {

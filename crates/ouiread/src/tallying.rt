@@ -1,5 +1,5 @@
 // The tally of the program's events, lent to be counted in.
-use steps::Word;
+use state::Word;
 use tally::Tally;
 ghost use mathlib.Core.Path.{_≡_};
 ghost use Rattle.tally.specs.Counting.{talliedAfter};

@@ -8,27 +8,22 @@ use Prim.Native.Nat.{ℕ, suc, _+_, _-_, _≤_, _<_}
 use lib.ListN.{length, take, drop, getD, length-drop, drop-of-length-le}
 use lib.Seq.{drop-cons, take-all, drop-drop}
 use Rattle.octets.specs.Choice.{pick}
-use Rattle.signing.specs.declared.judging.HeadAnswer.{HeadAnswer}
-use Rattle.steps.specs.Desk.{Desk, desk, goesOn, nextOf, Next, on, stop}
-use Rattle.steps.specs.Run.{Fed, more, event, follow, runOf}
-use Rattle.steps.specs.Skip.{Skip, passedOf, skipped}
-use Rattle.steps.specs.declared.runs.Passed.{Passed}
-use Rattle.steps.specs.declared.state.Phase.{Phase}
-use Rattle.steps.specs.declared.state.Reader.{Reader}
-use Rattle.steps.specs.declared.state.Stepped.{Stepped}
-use Rattle.steps.specs.declared.state.Word.{Word}
-use Rattle.steps.proofs.RunLaws.{PushesData}
-use Rattle.steps.proofs.RunLaws as runs
+use Rattle.state.specs.Desk.{Desk, desk, goesOn, nextOf, Next, on, stop}
+use Rattle.state.specs.Run.{Fed, more, event, follow, runOf}
+use Rattle.body_steps.specs.Skip.{Skip, passedOf, skipped}
+use Rattle.body_steps.specs.declared.runs.Passed.{Passed}
+use Rattle.state.specs.declared.phase.Phase.{Phase}
+use Rattle.state.specs.declared.reader.Reader.{Reader}
+use Rattle.state.specs.declared.stepped.Stepped.{Stepped}
+use Rattle.state.specs.declared.word.Word.{Word}
+use Rattle.body_steps.proofs.RunLaws.{PushesData}
+use Rattle.body_steps.proofs.RunLaws as runs
 use Rattle.stream.specs.Ring.{Ring}
 use Rattle.reader.specs.Feed.{pushAt, pushByte}
-use Rattle.reader.specs.HeadByte.{headAnswered}
-use Rattle.reader.proofs.CallLaws.{no}
+use Rattle.calls.proofs.CallLaws.{no}
 
 pub push-at : (ring : Ring) (p p' : Phase) (d : Desk) (x : ℕ) (n : Next) → p ≡ p' → n ≡ pushAt ring p' d x → n ≡ pushAt ring p d x
 push-at ring p p' d x n e f = f ∙ ap (λ (p : Phase). pushAt ring p d x) (sym e)
-
-pub answered-at : (d : Desk) (n : ℕ) (signature id : List ℕ) (m : Next) (a a' : HeadAnswer) → a ≡ a' → m ≡ headAnswered d n a' signature id → m ≡ headAnswered d n a signature id
-answered-at d n signature id m a a' e f = f ∙ ap (λ (a : HeadAnswer). headAnswered d n a signature id) (sym e)
 
 pushes-data : (ring : Ring) → PushesData (pushByte ring)
 unfolding pushAt

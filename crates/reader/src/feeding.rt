@@ -1,22 +1,21 @@
 // A piece of the stream, however it is cut.
-use crate::head_byte::push_head;
-use crate::outcome::Outcome;
-use crate::outcome::are_roomy;
-use crate::outcome::ended;
-use crate::outcome::is_reading;
-use crate::outcome::recalled;
-use crate::outcome::told;
-use crate::outcome::unchanged;
+use calls::Outcome;
+use calls::are_roomy;
+use calls::ended;
+use calls::is_reading;
+use calls::recalled;
+use calls::told;
+use calls::unchanged;
 use ring::KeyRing;
 use ring::RING_LIMIT;
-use steps::Phase;
-use steps::Reader;
-use steps::Stepped;
-use steps::Word;
+use state::Phase;
+use state::Reader;
+use state::Stepped;
+use state::Word;
 ghost use mathlib.Core.Path.{_≡_};
 ghost use Rattle.ring.specs.Keys.{ringOf};
-ghost use Rattle.steps.specs.Desk.{desk, nextOf};
-ghost use Rattle.reader.specs.Call.{made};
+ghost use Rattle.state.specs.Desk.{desk, nextOf};
+ghost use Rattle.calls.specs.Call.{made};
 ghost use Rattle.reader.specs.Feed.{pushByte, takenFrom, feedOf};
 
 // One byte, by the phase. In a phase that takes no bytes nothing changes.
@@ -32,16 +31,23 @@ fn push(
 {
     let phase = r.phase;
     match phase {
-        Phase::Head(have) => push_head(r, head, question, ring, have, x),
-        Phase::HeadAsked(_) => steps::said(Word::Refused(1), r),
-        Phase::FirstLine(have) => steps::push_first_line(r, have, x),
-        Phase::Data { have, size } => steps::push_data(r, block, have, size, x),
-        Phase::DataEnd { have, size } => steps::push_data_end(r, block, have, size, x),
-        Phase::NextLine { have, size } => steps::push_next_line(r, block, question, have, size, x),
-        Phase::BlockAsked { size: _, next: _ } => steps::said(Word::Refused(1), r),
-        Phase::Trailer { have, total } => steps::push_trailer(r, block, have, total, x),
-        Phase::Closed(_) => steps::said(Word::Refused(1), r),
-        Phase::Refused(_) => steps::said(Word::Refused(1), r),
+        Phase::Head(have) => head_steps::push_head(r, head, question, ring, have, x),
+        Phase::HeadAsked(_) => state::said(Word::Refused(1), r),
+        Phase::FirstLine(have) => line_steps::push_first_line(r, have, x),
+        Phase::Data { have, size } => body_steps::push_data(r, block, have, size, x),
+        Phase::DataEnd { have, size } => body_steps::push_data_end(r, block, have, size, x),
+        Phase::NextLine { have, size } => line_steps::push_next_line(
+            r,
+            block,
+            question,
+            have,
+            size,
+            x,
+        ),
+        Phase::BlockAsked { size: _, next: _ } => state::said(Word::Refused(1), r),
+        Phase::Trailer { have, total } => body_steps::push_trailer(r, block, have, total, x),
+        Phase::Closed(_) => state::said(Word::Refused(1), r),
+        Phase::Refused(_) => state::said(Word::Refused(1), r),
     }
 }
 
@@ -60,7 +66,7 @@ fn take(
     let mut state = r;
     let mut taken = 0;
     while taken < piece.len() {
-        let passed = steps::skip(state, block, &piece[taken..]);
+        let passed = body_steps::skip(state, block, &piece[taken..]);
         let run = passed.taken;
         taken += run;
         let reader = passed.reader;
@@ -72,7 +78,7 @@ fn take(
         taken += 1;
         let word = stepped.word;
         state = stepped.reader;
-        if !steps::goes_on(word) {
+        if !state::goes_on(word) {
             return ended(stepped, taken);
         }
     }
@@ -90,7 +96,7 @@ pub fn feed(
 ) -> Outcome
     ensures { λ o. ⌜ made o (now (head .exit)) (now (block .exit)) (now (question .exit)) ≡ feedOf ring (desk r (now (head .entry)) (now (block .entry)) (now (question .entry))) (now (piece .entry)) ⌝ }
 {
-    if !are_roomy(head, block, question) {
+    if !are_roomy(head.len(), block.len(), question.len()) {
         return unchanged(r, 2);
     }
     if RING_LIMIT < ring.count {

@@ -1,30 +1,8 @@
-// A fresh reader, and what is handed out: the block that is released, and the values of the accepted head.
-use crate::outcome::BLOCK_ROOM;
-use chunk::BlockNumber;
-use steps::Phase;
-use steps::Reader;
+// What is handed out: the block that is released, and the values of the accepted head.
+use calls::BLOCK_ROOM;
 ghost use mathlib.Core.Path.{_≡_};
 ghost use Rattle.head.specs.Handing.{handedValue};
-ghost use Rattle.reader.specs.Parts.{blockPart, freshReader};
-
-// A reader before its stream.
-pub fn fresh() -> Reader
-    ensures { λ r. ⌜ r ≡ freshReader ⌝ }
-{
-    Reader {
-        phase: Phase::Head(0),
-        accepted: 0,
-        status: 0,
-        block_size: 0,
-        key: 0,
-        id: [0; 64],
-        id_length: 0,
-        number: BlockNumber(0),
-        hash: [0; 64],
-        line: [0; 128],
-        released: 0,
-    }
-}
+ghost use Rattle.reader.specs.Parts.{blockPart};
 
 // The released block: the first bytes of the block buffer, as many as the reader has released. Empty in a buffer that is too short.
 pub fn block_part(block: &[u8], released: usize) -> &[u8]

@@ -12,14 +12,14 @@ use Rattle.layout.specs.Keys.{keysIn}
 use Rattle.layout.specs.Results.{resultSize}
 use Rattle.layout.specs.State.{stateSize, stored, decoded}
 use Rattle.layout.proofs.StateLaws.{Sound, decoded-stored, long-stored, stored-stored}
-use Rattle.reader.specs.Answer.{answerOf, endOf}
-use Rattle.reader.specs.Call.{Call, made as callOf}
+use Rattle.calls.specs.Answer.{answerOf, endOf}
+use Rattle.calls.specs.Call.{Call, made as callOf}
 use Rattle.reader.specs.Feed.{feedOf}
-use Rattle.reader.specs.declared.outcome.Outcome.{Outcome}
+use Rattle.calls.specs.declared.outcome.Outcome.{Outcome}
 use Rattle.ring.specs.declared.KeyRing.{KeyRing}
-use Rattle.steps.specs.Desk.{desk}
-use Rattle.steps.specs.declared.state.Reader.{Reader}
-use Rattle.reader.proofs.CallLaws.{no}
+use Rattle.state.specs.Desk.{desk}
+use Rattle.state.specs.declared.reader.Reader.{Reader}
+use Rattle.calls.proofs.CallLaws.{no}
 use Rattle.reader_export.specs.Export.{short, made, areLong, answered, called, feedIn, answerIn, endIn}
 
 -- ---- the ways of the code

@@ -4,11 +4,11 @@ use mathlib.Core.Path.{_≡_, refl, ap, _∙_}
 use Prim.Native.Nat.{ℕ}
 use Rattle.layout.specs.Keys.{keysIn}
 use Rattle.layout.specs.State.{decoded}
-use Rattle.reader.specs.Call.{Call}
+use Rattle.calls.specs.Call.{Call}
 use Rattle.reader.specs.Parts.{freshReader}
 use Rattle.sections.specs.Calls.{Request, feed, answer, end}
-use Rattle.steps.specs.Desk.{Desk, desk}
-use Rattle.steps.specs.declared.state.Reader.{Reader}
+use Rattle.state.specs.Desk.{Desk, desk}
+use Rattle.state.specs.declared.reader.Reader.{Reader}
 use Rattle.reader_export.specs.Export.{Answer, answered, called, deskIn}
 use Rattle.reader_export.specs.Lists.{Ask, callIn, Kept, Calls, over, next, callOf, Seen, seenIn, seenOf, runOf}
 

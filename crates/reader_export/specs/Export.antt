@@ -11,11 +11,11 @@ use Rattle.layout.specs.Keys.{keysIn}
 use Rattle.layout.specs.Parts.{Placed, placing, placed}
 use Rattle.layout.specs.Results.{resultSize, wordOf, resultIn}
 use Rattle.layout.specs.State.{stateSize, stored, decoded}
-use Rattle.reader.specs.Answer.{answerOf, endOf}
-use Rattle.reader.specs.Call.{Call}
+use Rattle.calls.specs.Answer.{answerOf, endOf}
+use Rattle.calls.specs.Call.{Call}
 use Rattle.reader.specs.Feed.{feedOf}
 use Rattle.reader.specs.Parts.{blockPart, freshReader}
-use Rattle.steps.specs.Desk.{Desk, desk}
+use Rattle.state.specs.Desk.{Desk, desk}
 
 -- the answer where the buffer of the state or of the result is too short: nothing is changed then
 abbrev pub short : ℕ

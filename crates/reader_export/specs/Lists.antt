@@ -5,12 +5,12 @@ use mathlib.Core.Path.{_≡_}
 use Prim.Native.Nat.{ℕ}
 use Rattle.layout.specs.Results.{wordOf, resultIn}
 use Rattle.layout.specs.State.{decoded}
-use Rattle.reader.specs.Answer.{answerOf, endOf}
-use Rattle.reader.specs.Call.{Call}
+use Rattle.calls.specs.Answer.{answerOf, endOf}
+use Rattle.calls.specs.Call.{Call}
 use Rattle.reader.specs.Feed.{feedOf}
 use Rattle.ring.specs.declared.KeyRing.{KeyRing}
 use Rattle.sections.specs.Calls.{Request, feed, answer, end}
-use Rattle.steps.specs.Desk.{Desk}
+use Rattle.state.specs.Desk.{Desk}
 use Rattle.reader_export.specs.Export.{Answer, areLong, called, deskIn, feedIn, answerIn, endIn}
 
 -- what a call asks for, and the buffer that is lent for its result

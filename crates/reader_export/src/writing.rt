@@ -7,7 +7,7 @@ ghost use mathlib.Core.Path.{_≡_};
 ghost use Prim.Native.Nat.{ℕ, _≤_};
 ghost use lib.ListN.{length};
 ghost use Rattle.layout.specs.State.{stateSize, decoded};
-ghost use Rattle.reader.specs.Call.{made as callOf};
+ghost use Rattle.calls.specs.Call.{made as callOf};
 ghost use Rattle.reader_export.specs.Export.{made, areLong, answered};
 
 // The answer where the buffer of the state or of the result is too short.

@@ -10,5 +10,3 @@ pub mod MessageLaws
 pub mod Sound
 pub mod SoundJudge
 pub mod SoundReading
-pub mod Ledger
-pub mod LedgerCalls

@@ -1,4 +1,4 @@
--- Where no rule is broken, every rule holds. Assumes nothing.
+-- Where no rule is broken, every rule holds; and the order in which a head's rules are tested. Assumes nothing.
 use borrow.Author.Tests.{leb-true}
 use mathlib.Core.Bool.{Bool, true, false, _&&_}
 use mathlib.Core.List.{List, [], _∷_, _++_}
@@ -35,3 +35,17 @@ rules-hold (r ∷ rs) n h = by (r .holds) refl h (rules-hold rs (right-holds (le
 pub head-rules-hold : (ring : Ring) (l : List ℕ) → headFault ring l ≡ 0 → AllHold (textRules l (headOf l) ++ trustRules ring (headOf l))
 unfolding textRules trustRules headFault
 head-rules-hold ring l h = rules-hold (textRules l (headOf l) ++ trustRules ring (headOf l)) refl h
+
+-- ---- the order, in which the first broken rule gives the refusal
+
+abbrev pub numbersOf : List Rule → List ℕ
+numbersOf [] = []
+numbersOf (r ∷ rs) = r .number ∷ numbersOf rs
+
+-- another version than 4 is told before a status that is not taken
+pub head-rules-order
+    : (ring : Ring) (l : List ℕ)
+    → numbersOf (textRules l (headOf l) ++ trustRules ring (headOf l))
+    ≡ 3 ∷ 3 ∷ 3 ∷ 3 ∷ 3 ∷ 4 ∷ 5 ∷ 4 ∷ 4 ∷ 4 ∷ 4 ∷ 4 ∷ 4 ∷ 4 ∷ 4 ∷ 12 ∷ 12 ∷ []
+unfolding textRules trustRules
+head-rules-order ring l = refl

@@ -4,8 +4,8 @@ use mathlib.Core.List.{List, [], _∷_}
 use Prim.Native.Nat.{ℕ, _+_, min}
 use lib.Dec.{eqb}
 use Rattle.octets.specs.Choice.{pick}
-use Rattle.steps.specs.declared.state.Word.{Word}
-use Rattle.steps.specs.declared.state.Word.the-variants as W
+use Rattle.state.specs.declared.word.Word.{Word}
+use Rattle.state.specs.declared.word.Word.the-variants as W
 use Rattle.tally.specs.declared.Tally.{Tally}
 
 -- "four 64-bit counts"

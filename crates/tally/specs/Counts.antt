@@ -5,8 +5,8 @@ use lib.ListN.{length}
 use Rattle.octets.specs.Choice.{pick}
 use Rattle.sections.specs.Reading.{Event, question, message, last, Log}
 use Rattle.stream.specs.Events.{Question, Release, headAccepted, block, LastWord, closed, refused}
-use Rattle.steps.specs.declared.state.Word.{Word}
-use Rattle.steps.specs.declared.state.Word.the-variants as W
+use Rattle.state.specs.declared.word.Word.{Word}
+use Rattle.state.specs.declared.word.Word.the-variants as W
 use Rattle.tally.specs.Counting.{largest, isOfCall}
 use Rattle.tally.specs.declared.Tally.{Tally}
 

@@ -1,5 +1,5 @@
 // The day tally: what a day's streams came to, counted event by event.
-use steps::Word;
+use state::Word;
 ghost use mathlib.Core.Path.{_≡_};
 ghost use Rattle.tally.specs.Counting.{noCounts, grown as grownBy, withBlock, withClosed, withRefused, refusedBy, talliedAfter};
 

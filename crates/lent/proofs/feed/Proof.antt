@@ -43,15 +43,15 @@ use Rattle.ring.specs.declared.KeyRing.{KeyRing}
 use Rattle.ring.proofs.KeyRecord as K
 use Rattle.ring.proofs.KeyRing as R
 use Rattle.ring.proofs.KeyRing.Laws as R′
-use Rattle.steps.specs.Desk.{Desk, desk}
-use Rattle.steps.specs.declared.state.Reader.{Reader}
-use Rattle.steps.proofs.state.Reader as S
-use Rattle.steps.proofs.state.Reader.Laws as S′
-use Rattle.reader.specs.Call.{Call, made}
+use Rattle.state.specs.Desk.{Desk, desk}
+use Rattle.state.specs.declared.reader.Reader.{Reader}
+use Rattle.state.proofs.reader.Reader as S
+use Rattle.state.proofs.reader.Reader.Laws as S′
+use Rattle.calls.specs.Call.{Call, made}
 use Rattle.reader.specs.Feed.{feedOf}
-use Rattle.reader.specs.declared.outcome.Outcome.{Outcome}
-use Rattle.reader.proofs.outcome.Outcome as O
-use Rattle.reader.proofs.outcome.Outcome.Laws as O′
+use Rattle.calls.specs.declared.outcome.Outcome.{Outcome}
+use Rattle.calls.proofs.outcome.Outcome as O
+use Rattle.calls.proofs.outcome.Outcome.Laws as O′
 use Rattle.reader.proofs.feed as by-value
 use Rattle.reader.proofs.feed.Symbol as by-value-def
 use Rattle.reader.proofs.feed.Symbol.{name as #reader·feed}

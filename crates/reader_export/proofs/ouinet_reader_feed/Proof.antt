@@ -3,7 +3,7 @@ use mathlib.Core.Path.{sym, _∙_}
 use denote.Ref.{now}
 use borrow.Author.Tests.{not-true, not-false}
 use borrow.Author.Needs.{needs}
-use Rattle.reader.proofs.CallLaws.{no}
+use Rattle.calls.proofs.CallLaws.{no}
 use Rattle.reader_export.proofs.ExportLaws.{call-short, call-whole, call-carried, fed-in}
 use Rattle.reader_export.proofs.ouinet_reader_feed.Statement.{statement}
 use Rattle.reader_export.proofs.ouinet_reader_feed.Tie as tie

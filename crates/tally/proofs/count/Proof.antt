@@ -39,11 +39,11 @@ use denote.Triple.Walked.{says, Stays, stay-ref, stay-none, walkOf, goes-none, g
 use denote.Exit.{yes}
 use Rattle.tally.specs.Counting.{talliedAfter}
 use Rattle.tally.specs.declared.Tally.{Tally}
-use Rattle.steps.specs.declared.state.Word.{Word}
+use Rattle.state.specs.declared.word.Word.{Word}
 use Rattle.tally.proofs.Tally as T
 use Rattle.tally.proofs.Tally.Laws as T′
-use Rattle.steps.proofs.state.Word as Wd
-use Rattle.steps.proofs.state.Word.Laws as Wd′
+use Rattle.state.proofs.word.Word as Wd
+use Rattle.state.proofs.word.Word.Laws as Wd′
 use Rattle.tally.proofs.counted as counted
 use Rattle.tally.proofs.counted.Symbol as counted-def
 use Rattle.tally.proofs.counted.Symbol.{name as #tally·counted}

@@ -3,7 +3,7 @@ use mathlib.Core.Path.{_≡_, sym, ap}
 use Prim.Native.Nat.{_<_}
 use native.Mathlib.Omega.{arith}
 use borrow.Author.Needs.{needs}
-use Rattle.steps.specs.declared.state.Phase.{Phase}
+use Rattle.state.specs.declared.phase.Phase.{Phase}
 use Rattle.layout.specs.State.{firstOf, refusalOf}
 use Rattle.layout.proofs.phases.first.Statement.{statement}
 use Rattle.layout.proofs.phases.first.Tie as tie

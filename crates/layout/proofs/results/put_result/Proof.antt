@@ -5,7 +5,7 @@ use Prim.Native.Nat.{ℕ}
 use denote.Ref.{now}
 use lib.Seq.{sets}
 use borrow.Author.Needs.{needs}
-use Rattle.steps.specs.declared.state.Word.{Word}
+use Rattle.state.specs.declared.word.Word.{Word}
 use Rattle.layout.specs.Parts.{allBytes}
 use Rattle.layout.specs.Results.{wordOf, firstIn, secondIn, resultBytes}
 use Rattle.layout.proofs.PartLaws.{sets-next, long-all}

@@ -6,8 +6,8 @@ use native.Mathlib.Omega.{arith}
 use borrow.Author.Needs.{needs}
 use denote.Ref.{now}
 use lib.Seq.{sets}
-use Rattle.steps.specs.declared.state.Phase.{Phase}
-use Rattle.steps.specs.declared.state.Reader.{Reader}
+use Rattle.state.specs.declared.phase.Phase.{Phase}
+use Rattle.state.specs.declared.reader.Reader.{Reader}
 use Rattle.layout.specs.Parts.{allBytes}
 use Rattle.layout.specs.State.{tagOf, firstOf, secondOf, refusalOf, decoded}
 use Rattle.layout.proofs.StateLaws.{front, all-put, InRange, sound, decoded-sets}

@@ -58,14 +58,14 @@ use Rattle.stream.specs.Limits.{ringLimit}
 use Rattle.ring.specs.declared.KeyRecord.{KeyRecord}
 use Rattle.ring.proofs.KeyRecord as K
 use Rattle.ring.proofs.KeyRecord.Laws as K′
-use Rattle.steps.specs.Desk.{Desk, desk}
-use Rattle.steps.specs.declared.state.Reader.{Reader}
-use Rattle.steps.proofs.state.Reader as S
-use Rattle.steps.proofs.state.Reader.Laws as S′
-use Rattle.reader.specs.Call.{Call, made}
-use Rattle.reader.specs.declared.outcome.Outcome.{Outcome}
-use Rattle.reader.proofs.outcome.Outcome as O
-use Rattle.reader.proofs.outcome.Outcome.Laws as O′
+use Rattle.state.specs.Desk.{Desk, desk}
+use Rattle.state.specs.declared.reader.Reader.{Reader}
+use Rattle.state.proofs.reader.Reader as S
+use Rattle.state.proofs.reader.Reader.Laws as S′
+use Rattle.calls.specs.Call.{Call, made}
+use Rattle.calls.specs.declared.outcome.Outcome.{Outcome}
+use Rattle.calls.proofs.outcome.Outcome as O
+use Rattle.calls.proofs.outcome.Outcome.Laws as O′
 use Rattle.lent.specs.Table.{lentFeedOf}
 use Rattle.lent.proofs.feed as lent-feed
 use Rattle.lent.proofs.feed.Symbol as lent-feed-def

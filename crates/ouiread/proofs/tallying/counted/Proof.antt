@@ -42,11 +42,11 @@ use denote.Triple.Walked.{says, Stays, stay-none, walkOf, goes-none, Walks, ends
 use denote.Exit.{yes}
 use Rattle.tally.specs.Counting.{talliedAfter}
 use Rattle.tally.specs.declared.Tally.{Tally}
-use Rattle.steps.specs.declared.state.Word.{Word}
+use Rattle.state.specs.declared.word.Word.{Word}
 use Rattle.tally.proofs.Tally as T
 use Rattle.tally.proofs.Tally.Laws as T′
-use Rattle.steps.proofs.state.Word as Wd
-use Rattle.steps.proofs.state.Word.Laws as Wd′
+use Rattle.state.proofs.word.Word as Wd
+use Rattle.state.proofs.word.Word.Laws as Wd′
 use Rattle.tally.proofs.count as count
 use Rattle.tally.proofs.count.Symbol as count-def
 use Rattle.tally.proofs.count.Symbol.{name as #tally·count}

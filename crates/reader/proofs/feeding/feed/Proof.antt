@@ -11,30 +11,12 @@ are-roomy-requires c κs = search needs
 unchanged-requires : tie.Need-unchanged-requires
 unchanged-requires c κs = search needs
 
-same-length : tie.Need-same-length
-same-length c = search needs
-
-same-length-2 : tie.Need-same-length-2
-same-length-2 c = search needs
-
-same-length-3 : tie.Need-same-length-3
-same-length-3 c = search needs
-
 returns : tie.Need-returns
 unfolding feedOf
 returns c = rw (c .unchanged .ensures, ← (c .before .before .are-roomy .ensures), not-true (c .before .before .are-roomy .result) (c .before .if1 .taken))
 
 unchanged-requires-2 : tie.Need-unchanged-requires-2
 unchanged-requires-2 c κs = search needs
-
-same-length-4 : tie.Need-same-length-4
-same-length-4 c = search needs
-
-same-length-5 : tie.Need-same-length-5
-same-length-5 c = search needs
-
-same-length-6 : tie.Need-same-length-6
-same-length-6 c = search needs
 
 returns-2 : tie.Need-returns-2
 unfolding feedOf
@@ -46,15 +28,6 @@ is-reading-requires c κs = search needs
 unchanged-requires-3 : tie.Need-unchanged-requires-3
 unchanged-requires-3 c κs = search needs
 
-same-length-7 : tie.Need-same-length-7
-same-length-7 c = search needs
-
-same-length-8 : tie.Need-same-length-8
-same-length-8 c = search needs
-
-same-length-9 : tie.Need-same-length-9
-same-length-9 c = search needs
-
 returns-3 : tie.Need-returns-3
 unfolding feedOf
 returns-3 c = rw (c .unchanged3 .ensures, ← (c .before .before .before .before .before .before .are-roomy .ensures), not-false (c .before .before .before .before .before .before .are-roomy .result) (c .before .before .before .before .before .if1 .left), le-leb _ _ (c .before .before .before .if2 .left), ← (c .before .before .is-reading .ensures), not-true (c .before .before .is-reading .result) (c .before .if3 .taken))
@@ -65,14 +38,14 @@ recalled-requires c κs = search needs
 take-requires : tie.Need-take-requires
 take-requires c κs = search needs
 
-same-length-10 : tie.Need-same-length-10
-same-length-10 c = search needs
+same-length : tie.Need-same-length
+same-length c = search needs
 
-same-length-11 : tie.Need-same-length-11
-same-length-11 c = search needs
+same-length-2 : tie.Need-same-length-2
+same-length-2 c = search needs
 
-same-length-12 : tie.Need-same-length-12
-same-length-12 c = search needs
+same-length-3 : tie.Need-same-length-3
+same-length-3 c = search needs
 
 returns-4 : tie.Need-returns-4
 unfolding feedOf
@@ -84,24 +57,15 @@ feed-spec =
     (tie.spec
     are-roomy-requires
     unchanged-requires
-    same-length
-    same-length-2
-    same-length-3
     returns
     unchanged-requires-2
-    same-length-4
-    same-length-5
-    same-length-6
     returns-2
     is-reading-requires
     unchanged-requires-3
-    same-length-7
-    same-length-8
-    same-length-9
     returns-3
     recalled-requires
     take-requires
-    same-length-10
-    same-length-11
-    same-length-12
+    same-length
+    same-length-2
+    same-length-3
     returns-4)

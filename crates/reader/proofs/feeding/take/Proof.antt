@@ -10,8 +10,8 @@ use native.Mathlib.Omega.{arith}
 use Prim.Native.Nat.{ℕ, _+_, _-_, _≤_}
 use lib.ListN.{length, drop}
 use Rattle.ring.specs.Keys.{ringOf}
-use Rattle.steps.specs.Desk.{desk, goesOn}
-use Rattle.steps.specs.Run.{Fed, event, runOf}
+use Rattle.state.specs.Desk.{desk, goesOn}
+use Rattle.state.specs.Run.{Fed, event, runOf}
 use Rattle.reader.specs.Feed.{pushByte, fed, takenFrom}
 use Rattle.reader.proofs.FeedLaws.{run-done, run-on, run-stop, skip-within, skip-same}
 use Rattle.reader.proofs.feeding.take.Statement.{statement}

@@ -5,8 +5,8 @@ use Prim.Native.Nat.{ℕ}
 use borrow.Author.Needs.{needs}
 use Rattle.layout.specs.Results.{Ending, ending, told}
 use Rattle.layout.specs.State.{stored}
-use Rattle.reader.specs.Call.{made as callOf}
-use Rattle.reader.specs.declared.outcome.Outcome.{Outcome}
+use Rattle.calls.specs.Call.{made as callOf}
+use Rattle.calls.specs.declared.outcome.Outcome.{Outcome}
 use Rattle.reader_export.specs.Export.{made, answered}
 use Rattle.reader_export.proofs.writing.finish.Statement.{statement}
 use Rattle.reader_export.proofs.writing.finish.Tie as tie

@@ -1,0 +1,3 @@
+pub mod KeptBody
+pub mod RunLaws
+pub mod SkipLaws

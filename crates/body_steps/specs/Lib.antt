@@ -1,0 +1,3 @@
+pub mod Data
+pub mod Skip
+pub mod Trailer

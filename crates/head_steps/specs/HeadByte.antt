@@ -1,0 +1,56 @@
+-- What one byte of the head does (paper 01, "The head"): it is gathered, and the head that is whole with it is judged. Assumes
+-- nothing.
+use mathlib.Core.List.{List}
+use Prim.Native.Nat.{ℕ, _+_}
+use lib.Dec.{leb}
+use lib.ListN.{length, take, set}
+use Rattle.octets.specs.Choice.{pick}
+use Rattle.signing.specs.Judgement.{Judgement, headJudged}
+use Rattle.signing.specs.declared.judging.HeadAnswer.{HeadAnswer}
+use Rattle.signing.specs.declared.judging.HeadAnswer.the-variants as A
+use Rattle.stream.specs.Head.{isWholeHead}
+use Rattle.stream.specs.Ring.{Ring}
+use Rattle.state.specs.Desk.{Desk, desk, inPhase, Next, on, stop, refuse}
+use Rattle.state.specs.declared.phase.Phase.the-variants as P
+use Rattle.state.specs.declared.reader.Fixed.{Fixed}
+use Rattle.state.specs.declared.reader.Reader.{Reader}
+use Rattle.state.specs.declared.word.Word.the-variants as W
+
+-- the reader while its head's question is open: it keeps what the head of n bytes fixes
+abbrev pub asking : Reader → ℕ → Fixed → Reader
+asking r n fixed =
+    record {
+      phase = P.HeadAsked n;
+      fixed = fixed;
+      chain = record { number = record { 0 = 0 }; hash = r .chain .hash };
+      line = r .line;
+      released = r .released;
+    }
+
+-- what the head says; it is not accepted yet
+abbrev pub fixing : Reader → ℕ → ℕ → ℕ → List ℕ → ℕ → Fixed
+fixing r status size key id idLength =
+    record { accepted = r .fixed .accepted; status = status; «block_size» = size; key = key; id = id; «id_length» = idLength }
+
+-- the answer, with the signature, the id and the question buffer as judged
+unfoldable pub headAnswered : Desk → ℕ → HeadAnswer → List ℕ → List ℕ → Next
+headAnswered d n (A.Refused k) signature id = refuse k 0 d
+headAnswered d n (A.Asks status size key idLength length) signature id =
+    stop (W.Question length key) signature
+    (desk (asking (d .reader) n (fixing (d .reader) status size key id idLength)) (d .head) (d .block) (d .question))
+
+-- the buffers after the judgement: a question is written, a refusal changes nothing
+abbrev pub judgedAt : Desk → ℕ → Judgement → Next
+judgedAt d n j = headAnswered (desk (d .reader) (d .head) (d .block) (j .question)) n (j .answer .answer) (j .answer .signature) (j .answer .id)
+
+-- the first n bytes of the head buffer are a whole head, or it goes on
+unfoldable pub headGathered : Ring → Desk → ℕ → Next
+headGathered ring d n =
+    pick (isWholeHead (take n (d .head))) (judgedAt d n (headJudged ring (take n (d .head)) (d .question))) (on d)
+
+-- in a state that no stream leads to, with a count past the buffer, the head is refused as too long
+unfoldable pub pushHead : Ring → Desk → ℕ → ℕ → Next
+pushHead ring d have x =
+    pick (leb (length (d .head)) have)
+    (refuse 3 0 d)
+    (headGathered ring (desk (inPhase (d .reader) (P.Head (have + 1))) (set (d .head) have x) (d .block) (d .question)) (have + 1))

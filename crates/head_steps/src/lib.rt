@@ -1,0 +1,120 @@
+// What one byte of the head does: it is gathered from the front of the head buffer, and the head that is whole with it is judged.
+use chunk::BlockNumber;
+use head::HEAD_LIMIT;
+use ring::KeyRing;
+use signing::HeadAnswer;
+use signing::Judged;
+use state::Chain;
+use state::Fixed;
+use state::Phase;
+use state::Reader;
+use state::Stepped;
+use state::Word;
+ghost use mathlib.Core.List.{List};
+ghost use mathlib.Core.Path.{_≡_};
+ghost use Prim.Native.Nat.{ℕ, _≤_};
+ghost use lib.ListN.{length};
+ghost use Rattle.ring.specs.Keys.{ringOf};
+ghost use Rattle.stream.specs.Head.{isWholeHead};
+ghost use Rattle.state.specs.Desk.{desk, nextOf};
+ghost use Rattle.head_steps.specs.HeadByte.{asking, headAnswered, headGathered, pushHead};
+
+fn is_whole_head(text: &[u8]) -> bool
+    ensures { λ r. ⌜ r ≡ isWholeHead (now (text .entry)) ⌝ }
+{
+    text::ends_twice(text) | (HEAD_LIMIT <= text.len())
+}
+
+// The reader with its head's question open: it keeps what the head fixes.
+fn asked(r: Reader, n: usize, fixed: Fixed) -> Reader
+    ensures { λ s. ⌜ s ≡ asking r n fixed ⌝ }
+{
+    let before = r.chain;
+    let hash = before.hash;
+    let chain = Chain {
+        number: BlockNumber(0),
+        hash,
+    };
+    let line = r.line;
+    Reader {
+        phase: Phase::HeadAsked(n),
+        fixed,
+        chain,
+        line,
+        released: r.released,
+    }
+}
+
+// Where the judgement of the head of n bytes leads. Nothing is pending, so that a refusal clears nothing.
+fn answer_judged(r: Reader, n: usize, judged: Judged) -> Stepped
+    ensures { λ s. ⌜ ((h b q : List ℕ) → nextOf s h b q ≡ headAnswered (desk r h b q) n (judged .answer) (judged .signature) (judged .id)) ⌝ }
+{
+    let signature = judged.signature;
+    let id = judged.id;
+    let answer = judged.answer;
+    match answer {
+        HeadAnswer::Refused(k) => state::said(
+            Word::Refused(k),
+            state::in_phase(r, Phase::Refused(k)),
+        ),
+        HeadAnswer::Asks {
+            status,
+            size,
+            key,
+            id_length,
+            length,
+        } => {
+            let before = r.fixed;
+            let fixed = Fixed {
+                accepted: before.accepted,
+                status,
+                block_size: size,
+                key,
+                id,
+                id_length,
+            };
+            Stepped {
+                word: Word::Question { length, key },
+                signature,
+                reader: asked(r, n, fixed),
+            }
+        }
+    }
+}
+
+// With its newest byte, the head is the first n bytes of the head buffer.
+fn judge_head(r: Reader, head: &[u8], question: &mut [u8], ring: KeyRing, n: usize) -> Stepped
+    requires { ⌜ n ≤ length (now head) ⌝ }
+    ensures { λ s. ⌜ ((b : List ℕ) → nextOf s (now (head .entry)) b (now (question .exit)) ≡ headGathered (ringOf ring) (desk r (now (head .entry)) b (now (question .entry))) n) ⌝ }
+{
+    if !is_whole_head(&head[0..n]) {
+        return state::said(Word::More, r);
+    }
+    let judged = signing::judge(&head[0..n], ring, question);
+    answer_judged(r, n, judged)
+}
+
+// A byte of the head, of which `have` bytes have come.
+pub fn push_head(
+    r: Reader,
+    head: &mut [u8],
+    question: &mut [u8],
+    ring: KeyRing,
+    have: usize,
+    x: u8,
+) -> Stepped
+    ensures { λ s. ⌜ ((b : List ℕ) → nextOf s (now (head .exit)) b (now (question .exit)) ≡ pushHead (ringOf ring) (desk r (now (head .entry)) b (now (question .entry))) have x) ⌝ }
+{
+    if head.len() <= have {
+        return state::said(Word::Refused(3), state::in_phase(r, Phase::Refused(3)));
+    }
+    head[have] = x;
+    let next = have + 1;
+    judge_head(
+        state::in_phase(r, Phase::Head(next)),
+        head,
+        question,
+        ring,
+        next,
+    )
+}

@@ -1,0 +1,3 @@
+pub mod KeptLines
+pub mod LineLaws
+pub mod QuestionLaws

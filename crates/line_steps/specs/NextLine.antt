@@ -1,0 +1,66 @@
+-- What one byte of the line after a block does, which carries the block's signature (paper 01, "Blocks"): the byte is gathered, and the
+-- line that is whole with it is judged; a good one asks about the block. Assumes nothing.
+use mathlib.Core.Bool.{true}
+use mathlib.Core.List.{List, []}
+use Prim.Native.Nat.{ℕ, _+_, min}
+use lib.Dec.{eqb, leb}
+use lib.ListN.{take, set}
+use Rattle.octets.specs.Choice.{pick}
+use Rattle.chunk.specs.Judging.{lineJudged}
+use Rattle.chunk.specs.Place.{offsetAt, largest}
+use Rattle.chunk.specs.Writing.{messageWritten}
+use Rattle.chunk.specs.declared.judging.Line.{Line}
+use Rattle.chunk.specs.declared.judging.LineAnswer.{LineAnswer}
+use Rattle.chunk.specs.declared.judging.LineAnswer.the-variants as A
+use Rattle.chunk.specs.declared.offsets.ByteOffset.{ByteOffset}
+use Rattle.number.specs.Writing.{Written}
+use Rattle.stream.specs.Blocks.{isWholeLine, chained, blockMessage}
+use Rattle.stream.specs.Limits.{lineLimit}
+use Rattle.state.specs.Desk.{Desk, desk, withHash, lined, Next, on, stop, refuse}
+use Rattle.state.specs.declared.phase.Phase.the-variants as P
+use Rattle.state.specs.declared.reader.Reader.{Reader}
+use Rattle.state.specs.declared.word.Word.the-variants as W
+use Rattle.line_steps.specs.FirstLine.{lineOf}
+
+-- where the block under way starts
+abbrev pub offsetNow : Reader → ByteOffset
+offsetNow r = offsetAt (r .chain .number) (r .fixed .«block_size»)
+
+-- how many bytes the body has with it; no stream's body comes near the largest number
+unfoldable pub bodyWith : Reader → ℕ → ℕ
+bodyWith r size = min (offsetNow r .0 + size) largest
+
+unfoldable pub nextJudged : Reader → ℕ → List ℕ → Line
+nextJudged r size l = lineJudged (r .fixed .«block_size») true (eqb size (r .fixed .«block_size»)) (bodyWith r size) l
+
+-- the hash of the block, the first `size` bytes of the block buffer
+abbrev pub hashNow : Desk → ℕ → List ℕ
+hashNow d size = chained (pick (eqb (d .reader .chain .number .0) 0) [] (d .reader .chain .hash)) (take size (d .block))
+
+-- the question about the block: its message is written at the front of the question buffer
+unfoldable pub messageNow : Desk → ℕ → Written
+messageNow d size =
+    messageWritten
+    (blockMessage (take (d .reader .fixed .«id_length») (d .reader .fixed .id)) (offsetNow (d .reader) .0) (hashNow d size))
+    (d .question)
+
+unfoldable pub asked : Desk → ℕ → ℕ → List ℕ → Next
+asked d size next signature =
+    stop (W.Question (messageNow d size .count) (d .reader .fixed .key)) signature
+    (desk (withHash (d .reader) (P.BlockAsked size next) (hashNow d size)) (d .head) (d .block) (messageNow d size .bytes))
+
+unfoldable pub nextAnswered : Desk → ℕ → LineAnswer → List ℕ → Next
+nextAnswered d size (A.Refused n) signature = refuse n size d
+nextAnswered d size (A.Good next) signature = asked d size next signature
+
+unfoldable pub nextGathered : Desk → ℕ → ℕ → Next
+nextGathered d n size =
+    pick (isWholeLine (lineOf d n))
+    (nextAnswered d size (nextJudged (d .reader) size (lineOf d n) .answer) (nextJudged (d .reader) size (lineOf d n) .signature))
+    (on d)
+
+unfoldable pub pushNextLine : Desk → ℕ → ℕ → ℕ → Next
+pushNextLine d have size x =
+    pick (leb lineLimit have)
+    (refuse 6 size d)
+    (nextGathered (lined d (P.NextLine (have + 1) size) (set (d .reader .line) have x)) (have + 1) size)

@@ -1,0 +1,73 @@
+// The chunk lines, gathered in the state: the first one, and what all lines share.
+use chunk::LineAnswer;
+use state::Phase;
+use state::Reader;
+use state::Stepped;
+use state::Word;
+use state::in_phase;
+use state::said;
+use state::with_line;
+ghost use mathlib.Core.List.{List};
+ghost use mathlib.Core.Path.{_≡_};
+ghost use Prim.Native.Nat.{ℕ, _≤_};
+ghost use Rattle.stream.specs.Blocks.{isWholeLine};
+ghost use Rattle.state.specs.Desk.{desk, nextOf};
+ghost use Rattle.line_steps.specs.FirstLine.{announced as announcedPhase, firstAnswered, firstGathered, pushFirstLine};
+
+// A line without its end is refused at this many bytes.
+pub(crate) const LINE_LIMIT: usize = 128;
+
+pub(crate) fn is_whole_line(line: &[u8]) -> bool
+    ensures { λ r. ⌜ r ≡ isWholeLine (now (line .entry)) ⌝ }
+{
+    text::ends_line(line) | (LINE_LIMIT <= line.len())
+}
+
+// Where a line leads that announces `size` bytes after a body of `total` bytes: to a block's data, or to the trailer.
+pub fn announced(size: usize, total: u64) -> Phase
+    ensures { λ p. ⌜ p ≡ announcedPhase size total ⌝ }
+{
+    if size == 0 {
+        return Phase::Trailer { have: 0, total };
+    }
+    Phase::Data { have: 0, size }
+}
+
+// Before the first block nothing is pending, so that a refusal clears nothing.
+fn answer_first(r: Reader, answer: LineAnswer) -> Stepped
+    ensures { λ s. ⌜ ((h b q : List ℕ) → nextOf s h b q ≡ firstAnswered (desk r h b q) answer) ⌝ }
+{
+    match answer {
+        LineAnswer::Refused(n) => said(Word::Refused(n), in_phase(r, Phase::Refused(n))),
+        LineAnswer::Good { size } => said(Word::More, in_phase(r, announced(size as usize, 0))),
+    }
+}
+
+// With its newest byte, the line is the first n bytes of the state's.
+fn judge_first(r: Reader, n: usize) -> Stepped
+    requires { ⌜ n ≤ 128 ⌝ }
+    ensures { λ s. ⌜ ((h b q : List ℕ) → nextOf s h b q ≡ firstGathered (desk r h b q) n) ⌝ }
+{
+    let line = r.line;
+    if !is_whole_line(&line[0..n]) {
+        return said(Word::More, r);
+    }
+    let fixed = r.fixed;
+    let size = fixed.block_size;
+    let judged = chunk::judge(&line[0..n], size, false, true, 0);
+    let answer = judged.answer;
+    answer_first(r, answer)
+}
+
+// A byte of the first chunk line, of which `have` bytes have come.
+pub fn push_first_line(r: Reader, have: usize, x: u8) -> Stepped
+    ensures { λ s. ⌜ ((h b q : List ℕ) → nextOf s h b q ≡ pushFirstLine (desk r h b q) have x) ⌝ }
+{
+    if LINE_LIMIT <= have {
+        return said(Word::Refused(6), in_phase(r, Phase::Refused(6)));
+    }
+    let mut line = r.line;
+    line[have] = x;
+    let next = have + 1;
+    judge_first(with_line(r, Phase::FirstLine(next), line), next)
+}

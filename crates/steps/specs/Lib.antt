@@ -1,4 +1,0 @@
-pub mod Desk
-pub mod Push
-pub mod Run
-pub mod Skip
