@@ -8,7 +8,7 @@ use native.Mathlib.Omega.{arith}
 use borrow.Author.Tests.{ne-eqb}
 use lib.ListN.{length, length-take}
 use Rattle.octets.specs.Choice.{pick}
-use Rattle.chunk.specs.Place.{largest}
+use Rattle.blocks.specs.Place.{largest}
 use Rattle.sections.specs.Reading.{Event, question, message, last}
 use Rattle.sections.specs.Calls.{Request, feed, answer, end, more, event}
 use Rattle.sections.specs.Machine.{running, asked, finished, Turn, respond}
@@ -21,7 +21,7 @@ use Rattle.stream.specs.Ring.{Ring}
 use Rattle.stream.specs.Stream.{Show, Past, after, Context, rules, blockOffset, bodyWith, showOf}
 use Rattle.stream.specs.Stream as C
 use Rattle.stream.proofs.Sound.{not-whole-empty}
-use Rattle.head.proofs.ValueLaws.{handed-signed}
+use Rattle.handing.proofs.ValueLaws.{handed-signed}
 use Rattle.state.specs.Desk.{Desk, desk, pending, refuse}
 use Rattle.steps.specs.Push as Push
 use Rattle.state.specs.Run.{Fed}

@@ -22,7 +22,7 @@ use Rattle.stream.specs.Stream.{isWhole, unlessBroken, showOf, headQuestion, ac
 use Rattle.stream.specs.Stream as C
 use Rattle.stream.proofs.SigningSize.{signing-fits}
 use Rattle.stream.proofs.SoundJudge.{SoundSays, judge-sound}
-use Rattle.head.proofs.ValueLaws.{handed-none}
+use Rattle.handing.proofs.ValueLaws.{handed-none}
 use Rattle.signing.specs.Judgement.{headJudged, noneAsked, judged}
 use Rattle.signing.specs.Judgement as J
 use Rattle.state.specs.Desk.{Desk, desk, inPhase, on}

@@ -14,7 +14,7 @@ use Rattle.stream.specs.Limits.{headLimit, blockLimit}
 use Rattle.stream.specs.Lines.{Field}
 use Rattle.stream.specs.Ring.{Ring}
 use Rattle.stream.specs.Stream.{Show, Past, Context}
-use Rattle.head.specs.Handing.{handedValue}
+use Rattle.handing.specs.Handing.{handedValue}
 use Rattle.state.specs.Desk.{Desk}
 use Rattle.state.specs.declared.phase.Phase.{Phase}
 use Rattle.state.specs.declared.reader.Reader.{Reader}

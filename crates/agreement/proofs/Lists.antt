@@ -22,8 +22,8 @@ use Rattle.stream.specs.Stream.{Context, rules}
 use Rattle.stream.specs.Stream as C
 use Rattle.stream.proofs.Sound.{not-whole-empty}
 use Rattle.stream.proofs.Truth.{left-holds, right-holds}
-use Rattle.head.specs.Handing.{handedValue}
-use Rattle.head.proofs.ValueLaws.{handed-none}
+use Rattle.handing.specs.Handing.{handedValue}
+use Rattle.handing.proofs.ValueLaws.{handed-none}
 use Rattle.state.specs.Desk.{Desk, desk}
 use Rattle.state.specs.declared.reader.Reader.{Reader}
 use Rattle.calls.specs.Call as R

@@ -13,8 +13,8 @@ use Rattle.sections.specs.Reading.{question}
 use Rattle.sections.specs.Calls.{event}
 use Rattle.sections.specs.Machine.{asked, rule, gathered, step}
 use Rattle.chunk.specs.Judging.{lineJudged, unlessFault, goodLine, signatureOf}
-use Rattle.chunk.specs.Place.{offsetAt}
-use Rattle.chunk.specs.Writing.{atFront, messageWritten}
+use Rattle.blocks.specs.Place.{offsetAt}
+use Rattle.blocks.specs.Writing.{atFront, messageWritten}
 use Rattle.number.specs.Writing.{written}
 use Rattle.stream.specs.Blocks.{isWholeLine, carriesSignature, chunkSize, lineSignature, lineRules, lineFault, chained, blockMessage}
 use Rattle.stream.specs.Limits.{lineLimit, bodyLimit}

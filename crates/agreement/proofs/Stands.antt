@@ -21,7 +21,7 @@ use Rattle.stream.specs.Ring.{Ring}
 use Rattle.stream.specs.Stream.{Show, Past, after, Context, isWhole, announced, showOf, blockOffset, bodyWith}
 use Rattle.stream.specs.Stream as C
 use Rattle.stream.proofs.Sound.{SoundShow, SoundBlock, Sound}
-use Rattle.head.specs.Handing.{handedValue}
+use Rattle.handing.specs.Handing.{handedValue}
 use Rattle.state.specs.Desk.{Desk, Next}
 use Rattle.state.specs.Desk as D
 use Rattle.state.specs.declared.phase.Phase.{Phase}

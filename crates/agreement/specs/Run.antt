@@ -12,7 +12,7 @@ use Rattle.sections.specs.Reading.{question, message, last}
 use Rattle.sections.specs.Calls.{Request, feed, answer, end, Word, more, event, misused}
 use Rattle.sections.specs.Calls as S
 use Rattle.stream.specs.Events.{Question, LastWord, closed, refused}
-use Rattle.head.specs.Handing.{handedValue}
+use Rattle.handing.specs.Handing.{handedValue}
 use Rattle.state.specs.Desk.{Desk, desk}
 use Rattle.state.specs.declared.word.Word.the-variants as W
 use Rattle.state.specs.declared.word.Word as Steps

@@ -20,7 +20,7 @@ const TRAILER_LIMIT: usize = 8_192;
 fn is_whole_trailer(text: &[u8]) -> bool
     ensures { λ r. ⌜ r ≡ isWholeTrailer (now (text .entry)) ⌝ }
 {
-    fields::ends_trailer(text) | (TRAILER_LIMIT <= text.len())
+    field_lines::ends_trailer(text) | (TRAILER_LIMIT <= text.len())
 }
 
 // With its newest byte, the trailer is the first `have` bytes of the block buffer.
@@ -31,7 +31,7 @@ fn judge_trailer(r: Reader, block: &mut [u8], have: usize, total: u64) -> Steppe
     if !is_whole_trailer(&block[0..have]) {
         return said(Word::More, r);
     }
-    if fields::is_trailer(&block[0..have]) {
+    if field_lines::is_trailer(&block[0..have]) {
         return said(Word::Closed(total), in_phase(r, Phase::Closed(total)));
     }
     refused(r, block, have, 6)

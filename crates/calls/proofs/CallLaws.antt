@@ -7,8 +7,8 @@ use mathlib.Core.Path.{_≡_, refl, sym, ap, _∙_}
 use native.Mathlib.Omega.{arith}
 use Prim.Native.Nat.{ℕ, _+_, _≤_, min}
 use types.Run.{OneOf, miss}
-use Rattle.chunk.specs.Place.{largest}
-use Rattle.chunk.specs.declared.offsets.BlockNumber.{BlockNumber}
+use Rattle.blocks.specs.Place.{largest}
+use Rattle.blocks.specs.declared.offsets.BlockNumber.{BlockNumber}
 use Rattle.octets.specs.Choice.{pick}
 use Rattle.state.specs.Desk.{Desk, desk, goesOn, nextOf, Next, on, stop, refuse}
 use Rattle.state.specs.declared.phase.Phase.{Phase}

@@ -1,8 +1,8 @@
 -- An answer, and the end (paper 01, "How a sitting goes" and "When the reader says no"). Assumes nothing.
 use mathlib.Core.Bool.{Bool}
 use Prim.Native.Nat.{ℕ, _+_, min}
-use Rattle.chunk.specs.Place.{largest}
-use Rattle.chunk.specs.declared.offsets.BlockNumber.{BlockNumber}
+use Rattle.blocks.specs.Place.{largest}
+use Rattle.blocks.specs.declared.offsets.BlockNumber.{BlockNumber}
 use Rattle.octets.specs.Choice.{pick}
 use Rattle.state.specs.Desk.{Desk, desk, pending, refuse}
 use Rattle.line_steps.specs.FirstLine.{announced}

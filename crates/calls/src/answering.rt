@@ -4,7 +4,7 @@ use crate::outcome::are_roomy;
 use crate::outcome::ended;
 use crate::outcome::told;
 use crate::outcome::unchanged;
-use chunk::BlockNumber;
+use blocks::BlockNumber;
 use state::Phase;
 use state::Reader;
 use state::Word;
@@ -76,7 +76,7 @@ fn answer_block(r: Reader, block: &mut [u8], size: usize, next: usize, good: boo
     let chain = r.chain;
     let number = chain.number;
     let fixed = r.fixed;
-    let offset = chunk::offset_of(number, fixed.block_size as u64);
+    let offset = blocks::offset_of(number, fixed.block_size as u64);
     told(
         Word::Block {
             offset,

@@ -1,4 +1,2 @@
 pub mod Judging
 pub mod Parts
-pub mod Place
-pub mod Writing

@@ -13,7 +13,7 @@ use lib.ListN.{length}
 use Rattle.ring.specs.declared.KeyRing.{KeyRing}
 use Rattle.sections.specs.Calls.{Request, feed}
 use Rattle.stream.specs.Limits.{headLimit, blockLimit, ringLimit}
-use Rattle.head.proofs.ValueLaws.{room-small}
+use Rattle.handing.proofs.ValueLaws.{room-small}
 use Rattle.state.specs.Desk.{Desk}
 use Rattle.calls.specs.Call.{isReading, unchanged}
 use Rattle.reader.specs.Feed.{feedOf}

@@ -10,13 +10,14 @@ use borrow.Author.Tests.{eqb-true, eqb-false}
 use lib.Dec.{eqb}
 use lib.ListN.{length, getD, set, replicate}
 use lib.Seq.{getD-set-same, getD-set-other}
-use Rattle.fields.specs.Answers.{answer, Within, ReadsField}
-use Rattle.fields.specs.declared.line.FieldLine.{FieldLine}
 use Rattle.places.specs.Place.{partOf}
-use Rattle.fields.specs.Table.{noEntry, entryField, fieldsFrom, fieldsIn}
-use Rattle.fields.specs.declared.table.Entry.{Entry}
-use Rattle.fields.specs.declared.table.Fields.{Fields}
 use Rattle.places.proofs.PlaceLaws.{part-moved, part-length}
+use Rattle.field_lines.specs.Entries.{noEntry, entryField, Within}
+use Rattle.field_lines.specs.Reading.{answer, ReadsField}
+use Rattle.field_lines.specs.declared.entry.Entry.{Entry}
+use Rattle.field_lines.specs.declared.line.FieldLine.{FieldLine}
+use Rattle.fields.specs.Table.{fieldsFrom, fieldsIn}
+use Rattle.fields.specs.declared.table.Fields.{Fields}
 
 -- ---- the fields, where one entry more is set
 

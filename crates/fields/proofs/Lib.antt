@@ -1,6 +1,4 @@
 pub mod TableLaws
-pub mod AnswerLaws
-pub mod FieldLineLaws
-pub mod StatusLaws
+pub mod ReadLaws
 pub mod FillLaws
 pub mod LinesLaws

@@ -3,45 +3,25 @@ use mathlib.Core.Path.{_≡_, sym, _∙_}
 use mathlib.Core.Bool.{Bool, true, false, not, _&&_, _||_}
 use mathlib.Core.List.{List, [], _∷_, _++_, map, append-assoc, append-nil}
 use mathlib.Core.Option.{Option}
-use Prim.Native.Nat.{ℕ, suc, _+_, _-_, _≤_, _<_}
+use Prim.Native.Nat.{ℕ, suc, _+_, _≤_, _<_}
 use native.Mathlib.Nat.{add-zero, zero-add}
 use native.Mathlib.Omega.{arith}
 use borrow.Author.Tests.{eqb-true, eqb-false, le-leb, lt-leb, not-false}
 use lib.Dec.{eqb, leb}
-use lib.ListN.{length, set, take, drop, length-append}
+use lib.ListN.{length, set, drop, length-append}
 use Rattle.stream.specs.Limits.{fieldLimit}
 use Rattle.stream.specs.Lines.{Field, isFieldLine, fieldOf, areFieldLines, fieldsOf, textLines}
 use Rattle.stream.proofs.Truth.{left-fails, right-fails}
 use Rattle.text.specs.Line.{lineLength}
-use Rattle.text.proofs.LineLaws.{text-none, text-end, text-first}
+use Rattle.text.proofs.LineLaws.{text-first}
 use Rattle.text.proofs.SameLaws.{both-false}
-use Rattle.fields.specs.Answers.{answer, ReadsField}
 use Rattle.places.specs.Place.{partOf}
+use Rattle.field_lines.specs.Reading.{answer, ReadsField}
+use Rattle.field_lines.specs.declared.entry.Entry.{Entry}
+use Rattle.field_lines.specs.declared.line.FieldLine.{FieldLine}
+use Rattle.field_lines.proofs.AnswerLaws.{line-good, line-field}
 use Rattle.fields.specs.Table.{fieldsFrom}
-use Rattle.fields.specs.declared.line.FieldLine.{FieldLine}
-use Rattle.fields.specs.declared.table.Entry.{Entry}
-use Rattle.fields.proofs.AnswerLaws.{line-good, line-field}
 use Rattle.fields.proofs.FillLaws.{from-length, from-more}
-
--- ---- whether all are field lines
-
-pub all-out : (s : List ℕ) (i : ℕ) → length s ≤ i → areFieldLines (textLines (drop i s)) ≡ true
-unfolding areFieldLines
-all-out s i h = rw (text-none s i h)
-
--- a turn: a line begins at i and ends at e
-module _ (s : List ℕ) (i e : ℕ) (b : i < length s) (f : e ≡ i + lineLength (drop i s)) where
-  pub all-end : e ≡ i → areFieldLines (textLines (drop i s)) ≡ true
-  unfolding areFieldLines
-  all-end h = rw (text-end s i e b f h)
-
-  pub all-bad : i < e → isFieldLine (take (e - i) (drop i s)) ≡ false → areFieldLines (textLines (drop i s)) ≡ false
-  unfolding areFieldLines
-  all-bad h k = rw (text-first s i e b f h, k)
-
-  pub all-on : i < e → isFieldLine (take (e - i) (drop i s)) ≡ true → areFieldLines (textLines (drop i s)) ≡ areFieldLines (textLines (drop (e + 2) s))
-  unfolding areFieldLines
-  all-on h k = rw (text-first s i e b f h, k)
 
 -- ---- the fields of the lines that are left, after fields that were read
 

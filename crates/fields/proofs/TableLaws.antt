@@ -8,8 +8,9 @@ use native.Mathlib.Omega.{arith}
 use lib.ListN.{getD}
 use Rattle.stream.specs.Bytes.{sameName}
 use Rattle.stream.specs.Fields.{among, isDoubled, namesOf, valueOf}
-use Rattle.fields.specs.Table.{entryName, entryValue, entryField, noEntry, fieldsFrom, fieldsIn}
-use Rattle.fields.specs.declared.table.Entry.{Entry}
+use Rattle.field_lines.specs.Entries.{entryName, entryValue, entryField, noEntry}
+use Rattle.field_lines.specs.declared.entry.Entry.{Entry}
+use Rattle.fields.specs.Table.{fieldsFrom, fieldsIn}
 use Rattle.fields.specs.declared.table.Fields.{Fields}
 
 -- ---- the fields of a table from entry i on, of n

@@ -1,19 +1,18 @@
 -- What the functions' answers say, each of the text that it was asked of. Assumes nothing.
-use mathlib.Core.Bool.{Bool, true, false, _&&_}
+use mathlib.Core.Bool.{Bool, _&&_}
 use mathlib.Core.List.{List}
-use mathlib.Core.Option.{Option, some, none}
 use mathlib.Core.Path.{_≡_}
 use Prim.Native.Nat.{ℕ, _≤_}
 use lib.Dec.{leb}
 use lib.ListN.{length, getD}
 use Rattle.stream.specs.Fields.{hasField, valueOf}
 use Rattle.stream.specs.Limits.{fieldLimit}
-use Rattle.stream.specs.Lines.{isFieldLine, fieldOf, areFieldLines, fieldsOf}
+use Rattle.stream.specs.Lines.{areFieldLines, fieldsOf}
 use Rattle.places.specs.Place.{partOf}
-use Rattle.fields.specs.Table.{noEntry, entryField, fieldsIn}
-use Rattle.fields.specs.declared.line.FieldLine.{FieldLine}
+use Rattle.field_lines.specs.Entries.{noEntry, Within}
+use Rattle.field_lines.specs.Reading.{answer}
+use Rattle.fields.specs.Table.{fieldsIn}
 use Rattle.fields.specs.declared.reading.FieldsRead.{FieldsRead}
-use Rattle.fields.specs.declared.table.Entry.{Entry}
 use Rattle.fields.specs.declared.table.Fields.{Fields}
 use Rattle.fields.specs.declared.table.Value.{Value}
 
@@ -27,28 +26,6 @@ pub record Finds (text : List ℕ) (there : Bool) (bytes : List ℕ) (v : Value)
 -- the value of a field by the field's name, where names are compared without case (paper 01, "The head")
 abbrev pub FindsValue : List ℕ → Fields → List ℕ → Value → Type 0
 FindsValue text f name v = Finds text (hasField name (fieldsIn text f)) (valueOf name (fieldsIn text f)) v
-
--- an answer that says something only if it is good
-unfoldable pub answer : {A : Type 0} → Bool → A → Option A
-answer true a = some a
-answer false a = none
-
--- an entry's places are those of parts of a text so long
-pub record Within (size : ℕ) (e : Entry) : Type 0 where
-  pub name-ordered : e .«name_start» ≤ e .«name_end»
-  pub name-within : e .«name_end» ≤ size
-  pub value-ordered : e .«value_start» ≤ e .«value_end»
-  pub value-within : e .«value_end» ≤ size
-
--- ---- a line read as a field line
-
-abbrev pub noLine : FieldLine
-noLine = record { good = false; entry = noEntry }
-
--- the line's field by its places in the text, against what the line says
-pub record ReadsField (text line : List ℕ) (r : FieldLine) : Type 0 where
-  pub meaning : answer (r .good) (entryField text (r .entry)) ≡ answer (isFieldLine line) (fieldOf line)
-  pub within : Within (length text) (r .entry)
 
 -- ---- lines read as the fields of a head
 

@@ -5,24 +5,11 @@ use Prim.Native.Nat.{ℕ, zero, suc, _+_, min}
 use lib.ListN.{getD}
 use Rattle.stream.specs.Limits.{fieldLimit}
 use Rattle.stream.specs.Lines.{Field}
-use Rattle.places.specs.Place.{partOf}
-use Rattle.fields.specs.declared.table.Entry.{Entry}
+use Rattle.field_lines.specs.Entries.{entryField, noEntry}
+use Rattle.field_lines.specs.declared.entry.Entry.{Entry}
 use Rattle.fields.specs.declared.table.Fields.{Fields}
 
-abbrev pub entryName : List ℕ → Entry → List ℕ
-entryName text e = partOf text (e .«name_start») (e .«name_end»)
-
-abbrev pub entryValue : List ℕ → Entry → List ℕ
-entryValue text e = partOf text (e .«value_start») (e .«value_end»)
-
-unfoldable pub entryField : List ℕ → Entry → Field
-entryField text e = record { name = entryName text e; value = entryValue text e }
-
--- past the table's end an entry stands for no bytes
-abbrev pub noEntry : Entry
-noEntry = record { «name_start» = 0; «name_end» = 0; «value_start» = 0; «value_end» = 0 }
-
--- the fields of k entries, from entry i on
+-- the fields of k entries, from entry i on; past the table's end an entry stands for no bytes
 unfoldable pub fieldsFrom : List ℕ → List Entry → ℕ → ℕ → List Field
 fieldsFrom text es i zero = []
 fieldsFrom text es i (suc k) = entryField text (getD es i noEntry) ∷ fieldsFrom text es (i + 1) k

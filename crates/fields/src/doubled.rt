@@ -1,11 +1,12 @@
 // Whether two fields of a head have one name.
 use crate::table;
-use crate::table::Entry;
 use crate::table::Fields;
+use field_lines::Entry;
 ghost use mathlib.Core.Path.{_≡_};
 ghost use Rattle.stream.specs.Bytes.{sameName};
 ghost use Rattle.stream.specs.Fields.{isDoubled, namesOf};
-ghost use Rattle.fields.specs.Table.{entryName, fieldsIn};
+ghost use Rattle.field_lines.specs.Entries.{entryName};
+ghost use Rattle.fields.specs.Table.{fieldsIn};
 
 fn same_names(text: &[u8], a: Entry, b: Entry) -> bool
     ensures { λ r. ⌜ r ≡ sameName (entryName (now (text .entry)) a) (entryName (now (text .entry)) b) ⌝ }

@@ -1,8 +1,11 @@
-// A field's value by the field's name.
+// A field by its name: whether it is there, and its value.
 use crate::table;
 use crate::table::Fields;
 use crate::table::Value;
+ghost use mathlib.Core.Path.{_≡_};
+ghost use Rattle.stream.specs.Fields.{hasField, valueOf};
 ghost use Rattle.fields.specs.Answers.{FindsValue};
+ghost use Rattle.fields.specs.Table.{fieldsIn};
 
 // Where the value of the first field of that name lies.
 pub fn find(text: &[u8], f: Fields, name: &[u8]) -> Value
@@ -27,4 +30,19 @@ pub fn find(text: &[u8], f: Fields, name: &[u8]) -> Value
         start: 0,
         end: 0,
     }
+}
+
+pub fn has(text: &[u8], f: Fields, name: &[u8]) -> bool
+    ensures { λ r. ⌜ r ≡ hasField (now (name .entry)) (fieldsIn (now (text .entry)) f) ⌝ }
+{
+    let v = find(text, f, name);
+    v.found
+}
+
+// Empty where there is no such field.
+pub fn value_of<'a>(text: &'a [u8], f: Fields, name: &[u8]) -> &'a [u8]
+    ensures { λ r. ⌜ now r ≡ valueOf (now (name .entry)) (fieldsIn (now (text .entry)) f) ⌝ }
+{
+    let v = find(text, f, name);
+    places::part(text, v.start, v.end)
 }

@@ -1,14 +1,14 @@
 // The field lines of a head, as a table.
-use crate::line;
-use crate::line::FieldLine;
 use crate::table;
-use crate::table::Entry;
 use crate::table::Fields;
+use field_lines::Entry;
+use field_lines::FieldLine;
 ghost use mathlib.Core.Path.{_≡_};
 ghost use Prim.Native.Nat.{_≤_};
 ghost use lib.ListN.{drop, length};
 ghost use Rattle.stream.specs.Lines.{textLines};
-ghost use Rattle.fields.specs.Answers.{ReadsField, ReadsFields};
+ghost use Rattle.field_lines.specs.Reading.{ReadsField};
+ghost use Rattle.fields.specs.Answers.{ReadsFields};
 ghost use Rattle.places.specs.Place.{partOf};
 
 // Whether all lines are field lines, and no more than a head may have; and their table.
@@ -22,7 +22,7 @@ fn field_at(text: &[u8], start: usize, end: usize) -> FieldLine
     requires { ⌜ (start ≤ end) × (end ≤ length (now text)) ⌝ }
     ensures { λ r. ⌜ ReadsField (now (text .entry)) (partOf (now (text .entry)) start end) r ⌝ }
 {
-    let r = line::field_line(&text[start..end]);
+    let r = field_lines::field_line(&text[start..end]);
     let e = r.entry;
     FieldLine {
         good: r.good,
@@ -39,7 +39,7 @@ fn field_at(text: &[u8], start: usize, end: usize) -> FieldLine
 pub fn read_fields(text: &[u8], from: usize) -> FieldsRead
     ensures { λ r. ⌜ ReadsFields (now (text .entry)) (textLines (drop from (now (text .entry)))) r ⌝ }
 {
-    let nothing = table::no_entry();
+    let nothing = field_lines::no_entry();
     let mut entries = [nothing; table::FIELD_LIMIT];
     let mut count = 0;
     let mut i = from;

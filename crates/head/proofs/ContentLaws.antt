@@ -8,7 +8,7 @@ use Rattle.stream.specs.Lines.{isStatusLine, areFieldLines}
 use Rattle.stream.specs.Signatures.{isInjection, isBsigs, isSig0, createdText, isNameList}
 use Rattle.stream.proofs.RulesHold.{AllHold, rules-hold}
 use Rattle.places.specs.Place.{partOf}
-use Rattle.params.specs.NameList.{namesIn}
+use Rattle.names.specs.NameList.{namesIn}
 use Rattle.params.proofs.Answers.{sig0-created, sig0-names}
 use Rattle.head.specs.Reading.{Reads}
 use Rattle.head.specs.declared.whole.HeadRead.{HeadRead}

@@ -17,8 +17,8 @@ use Rattle.fields.specs.Answers.{ReadsFields}
 use Rattle.places.specs.Place.{partOf}
 use Rattle.fields.specs.Table.{fieldsIn}
 use Rattle.fields.specs.declared.reading.FieldsRead.{FieldsRead}
-use Rattle.fields.proofs.AnswerLaws.{fields-good, fields-are}
-use Rattle.fields.proofs.StatusLaws.{status-digits, status-room}
+use Rattle.fields.proofs.ReadLaws.{fields-good, fields-are}
+use Rattle.field_lines.proofs.StatusLaws.{status-digits, status-room}
 use Rattle.text.specs.Line.{lineLength}
 use Rattle.text.proofs.LineLaws.{line-le, text-end, text-first}
 use Rattle.head.specs.Steps.{areGoodLines, ReadsLines}

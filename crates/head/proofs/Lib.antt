@@ -2,8 +2,6 @@ pub mod RuleLaws
 pub mod PlaceLaws
 pub mod FirstLine
 pub mod PlainLaws
-pub mod NameLaws
 pub mod SignedLaws
 pub mod WholeLaws
 pub mod ContentLaws
-pub mod ValueLaws

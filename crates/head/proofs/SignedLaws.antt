@@ -15,12 +15,13 @@ use Rattle.places.specs.Place.{partOf}
 use Rattle.params.specs.BlockSigs.{bsigsOf}
 use Rattle.params.specs.HeadSig.{ReadsSig0}
 use Rattle.params.specs.Injection.{injectionOf}
-use Rattle.params.specs.NameList.{namesIn, ReadsNames}
+use Rattle.names.specs.NameList.{namesIn, ReadsNames}
 use Rattle.params.specs.declared.bsigs.Bsigs.{Bsigs}
 use Rattle.params.specs.declared.injection.Injection.{Injection}
-use Rattle.params.specs.declared.names.NamesRead.{NamesRead}
+use Rattle.names.specs.declared.reading.NamesRead.{NamesRead}
 use Rattle.params.specs.declared.sig0.Sig0.{Sig0}
-use Rattle.params.proofs.Answers.{injection-says, bsigs-says, sig0-says, sig0-names, names-say, names-are}
+use Rattle.params.proofs.Answers.{injection-says, bsigs-says, sig0-says, sig0-names}
+use Rattle.names.proofs.Answers.{names-say, names-are}
 use Rattle.head.specs.Steps.{areSigned, ReadsSigned}
 
 too-long : (fs : List Field) (ns : List (List ℕ)) → leb (length ns) nameLimit ≡ false → isNameList fs ns ≡ false

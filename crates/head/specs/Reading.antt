@@ -10,7 +10,7 @@ use Rattle.fields.specs.Table.{fieldsIn}
 use Rattle.params.specs.BlockSigs.{bsigsOf}
 use Rattle.params.specs.HeadSig.{ReadsSig0}
 use Rattle.params.specs.Injection.{injectionOf}
-use Rattle.params.specs.NameList.{namesIn}
+use Rattle.names.specs.NameList.{namesIn}
 use Rattle.head.specs.declared.whole.HeadRead.{HeadRead}
 
 -- the contents that r keeps, or keeps the places of, are those of the head

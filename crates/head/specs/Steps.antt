@@ -20,7 +20,7 @@ use Rattle.fields.specs.Table.{fieldsIn}
 use Rattle.params.specs.BlockSigs.{bsigsOf}
 use Rattle.params.specs.HeadSig.{ReadsSig0}
 use Rattle.params.specs.Injection.{injectionOf}
-use Rattle.params.specs.NameList.{namesIn}
+use Rattle.names.specs.NameList.{namesIn}
 use Rattle.head.specs.declared.lines.LinesRead.{LinesRead}
 use Rattle.head.specs.declared.signed.Signed.{Signed}
 

@@ -12,7 +12,7 @@ pub fn read_lines(text: &[u8]) -> LinesRead
     ensures { λ r. ⌜ ReadsLines (now (text .entry)) r ⌝ }
 {
     let end = text::line_end(text, 0);
-    let status = fields::is_status_line(places::part(text, 0, end));
+    let status = field_lines::is_status_line(places::part(text, 0, end));
     let read = fields::read_fields(text, end + 2);
     let table = read.fields;
     let single = !fields::is_doubled(text, table);

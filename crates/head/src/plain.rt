@@ -1,5 +1,4 @@
 // The version, the status, and the fields that are compared with fixed text or must be there, or not there.
-use crate::lookup;
 use fields::Fields;
 ghost use mathlib.Core.Path.{_≡_};
 ghost use Rattle.fields.specs.Table.{fieldsIn};
@@ -10,10 +9,10 @@ ghost use Rattle.head.specs.Steps.{versionRules, statusNumber, isPlain};
 pub fn version_fault(text: &[u8], f: Fields) -> u8
     ensures { λ r. ⌜ r ≡ firstBroken (versionRules (fieldsIn (now (text .entry)) f)) ⌝ }
 {
-    if !lookup::has(text, f, b"x-ouinet-version") {
+    if !fields::has(text, f, b"x-ouinet-version") {
         return 4;
     }
-    if !text::same(lookup::value_of(text, f, b"x-ouinet-version"), b"4") {
+    if !text::same(fields::value_of(text, f, b"x-ouinet-version"), b"4") {
         return 5;
     }
     0
@@ -41,8 +40,8 @@ pub fn status_number(digits: &[u8]) -> u64
 pub fn is_plain(text: &[u8], f: Fields) -> bool
     ensures { λ r. ⌜ r ≡ isPlain (fieldsIn (now (text .entry)) f) ⌝ }
 {
-    let chunked = text::same_name(lookup::value_of(text, f, b"transfer-encoding"), b"chunked");
-    let sized = lookup::has(text, f, b"content-length");
-    let uri = lookup::value_of(text, f, b"x-ouinet-uri");
+    let chunked = text::same_name(fields::value_of(text, f, b"transfer-encoding"), b"chunked");
+    let sized = fields::has(text, f, b"content-length");
+    let uri = fields::value_of(text, f, b"x-ouinet-uri");
     chunked & (!sized & (1 <= uri.len()))
 }

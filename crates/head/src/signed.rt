@@ -1,10 +1,8 @@
 // The fields that hold parameters: `X-Ouinet-Injection`, `X-Ouinet-BSigs`, `X-Ouinet-Sig0` and its list of names.
-use crate::lookup;
-use crate::names;
 use fields::Fields;
+use names::Names;
 use params::Bsigs;
 use params::Injection;
-use params::Names;
 use params::Sig0;
 ghost use Rattle.fields.specs.Table.{fieldsIn};
 ghost use Rattle.params.specs.HeadSig.{ReadsSig0};
@@ -45,11 +43,11 @@ fn sig0_in(text: &[u8], f: Fields) -> Sig0
 pub fn read_signed(text: &[u8], f: Fields) -> Signed
     ensures { λ r. ⌜ ReadsSigned (now (text .entry)) (fieldsIn (now (text .entry)) f) r ⌝ }
 {
-    let injection = params::read_injection(lookup::value_of(text, f, b"x-ouinet-injection"));
-    let bsigs = params::read_bsigs(lookup::value_of(text, f, b"x-ouinet-bsigs"));
+    let injection = params::read_injection(fields::value_of(text, f, b"x-ouinet-injection"));
+    let bsigs = params::read_bsigs(fields::value_of(text, f, b"x-ouinet-bsigs"));
     let sig0 = sig0_in(text, f);
     let list = places::part(text, sig0.names_start, sig0.names_end);
-    let read = params::read_names(list);
+    let read = names::read_names(list);
     let spans = read.names;
     let listed = read.good & names::is_list(text, f, list, spans);
     Signed {

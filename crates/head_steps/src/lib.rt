@@ -1,5 +1,5 @@
 // What one byte of the head does: it is gathered from the front of the head buffer, and the head that is whole with it is judged.
-use chunk::BlockNumber;
+use blocks::BlockNumber;
 use head::HEAD_LIMIT;
 use ring::KeyRing;
 use signing::HeadAnswer;

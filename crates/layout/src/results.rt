@@ -1,7 +1,7 @@
 // The result of a call: its word, how many bytes were taken, the two numbers of the word, and a signature.
 use crate::parts::put_numbers;
 use crate::state::put_64;
-use chunk::ByteOffset;
+use blocks::ByteOffset;
 use state::Word;
 ghost use mathlib.Core.Path.{_≡_};
 ghost use Prim.Native.Nat.{_≤_};

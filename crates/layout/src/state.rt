@@ -8,7 +8,7 @@ use crate::phases::first;
 use crate::phases::phase;
 use crate::phases::second;
 use crate::phases::tag;
-use chunk::BlockNumber;
+use blocks::BlockNumber;
 use state::Phase;
 use state::Reader;
 ghost use mathlib.Core.Path.{_≡_};

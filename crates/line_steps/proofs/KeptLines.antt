@@ -7,7 +7,7 @@ use Prim.Native.Nat.{ℕ, _+_, _≤_}
 use borrow.Author.Tests.{leb-true}
 use lib.Dec.{leb}
 use lib.ListN.{length, length-append, length-drop}
-use Rattle.chunk.specs.Writing.{atFront, messageWritten}
+use Rattle.blocks.specs.Writing.{atFront, messageWritten}
 use Rattle.chunk.specs.declared.judging.LineAnswer.{LineAnswer}
 use Rattle.chunk.specs.declared.judging.LineAnswer.the-variants as A
 use Rattle.number.specs.Writing.{written}

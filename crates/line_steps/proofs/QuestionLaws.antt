@@ -5,8 +5,8 @@ use native.Mathlib.Nat.{sub-zero}
 use Prim.Native.Nat.{ℕ, _-_, min}
 use lib.Dec.{eqb}
 use lib.ListN.{length, take}
-use Rattle.chunk.specs.Writing.{messageWritten}
-use Rattle.chunk.specs.declared.offsets.ByteOffset.{ByteOffset}
+use Rattle.blocks.specs.Writing.{messageWritten}
+use Rattle.blocks.specs.declared.offsets.ByteOffset.{ByteOffset}
 use Rattle.number.specs.Writing.{written}
 use Rattle.octets.specs.Choice.{pick}
 use Rattle.stream.specs.Blocks.{chained, blockMessage}

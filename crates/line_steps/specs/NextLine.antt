@@ -7,12 +7,12 @@ use lib.Dec.{eqb, leb}
 use lib.ListN.{take, set}
 use Rattle.octets.specs.Choice.{pick}
 use Rattle.chunk.specs.Judging.{lineJudged}
-use Rattle.chunk.specs.Place.{offsetAt, largest}
-use Rattle.chunk.specs.Writing.{messageWritten}
+use Rattle.blocks.specs.Place.{offsetAt, largest}
+use Rattle.blocks.specs.Writing.{messageWritten}
 use Rattle.chunk.specs.declared.judging.Line.{Line}
 use Rattle.chunk.specs.declared.judging.LineAnswer.{LineAnswer}
 use Rattle.chunk.specs.declared.judging.LineAnswer.the-variants as A
-use Rattle.chunk.specs.declared.offsets.ByteOffset.{ByteOffset}
+use Rattle.blocks.specs.declared.offsets.ByteOffset.{ByteOffset}
 use Rattle.number.specs.Writing.{Written}
 use Rattle.stream.specs.Blocks.{isWholeLine, chained, blockMessage}
 use Rattle.stream.specs.Limits.{lineLimit}

@@ -27,7 +27,7 @@ pub fn body_with(r: Reader, size: usize) -> u64
     let chain = r.chain;
     let number = chain.number;
     let fixed = r.fixed;
-    let offset = chunk::offset_of(number, fixed.block_size as u64);
+    let offset = blocks::offset_of(number, fixed.block_size as u64);
     let start = offset.0;
     let length = size as u64;
     if LARGEST - start < length {
@@ -62,11 +62,11 @@ fn ask(
     let chain = r.chain;
     let number = chain.number;
     let before = chain.hash;
-    let hash = chunk::chain(number, before, &block[0..end]);
+    let hash = blocks::chain(number, before, &block[0..end]);
     let fixed = r.fixed;
-    let offset = chunk::offset_of(number, fixed.block_size as u64);
+    let offset = blocks::offset_of(number, fixed.block_size as u64);
     let id = fixed.id;
-    let length = chunk::message(question, id, fixed.id_length, offset, hash);
+    let length = blocks::message(question, id, fixed.id_length, offset, hash);
     let key = fixed.key;
     let reader = with_hash(r, Phase::BlockAsked { size, next }, hash);
     Stepped {

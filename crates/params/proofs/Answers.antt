@@ -3,23 +3,20 @@ use mathlib.Core.Bool.{Bool, true, false}
 use mathlib.Core.List.{List}
 use mathlib.Core.Path.{_≡_, refl, ap, _∙_}
 use Prim.Native.Nat.{ℕ, _≤_}
-use lib.Dec.{leb}
 use lib.ListN.{length}
 use Rattle.octets.specs.Choice.{pick}
 use Rattle.base64.specs.Base64.{isText, bytesOf}
 use Rattle.stream.specs.Bytes.{between}
 use Rattle.stream.specs.Numbers.{isDecimal, decimalValue}
-use Rattle.stream.specs.Signatures.{isInjection, idText, timeText, isBsigs, keyText, blockSizeText, isSig0, createdText, namesText, headSignatureText, splitNames}
+use Rattle.stream.specs.Signatures.{isInjection, idText, timeText, isBsigs, keyText, blockSizeText, isSig0, createdText, namesText, headSignatureText}
 use Rattle.stream.specs.Template.{Scanned, isLike}
 use Rattle.stream.proofs.Truth.{left-holds, right-holds, within}
 use Rattle.params.specs.BlockSigs.{bsigsOf}
 use Rattle.params.specs.HeadSig.{HeadSig, headSigOf, headSigIn, ReadsSig0}
 use Rattle.params.specs.Injection.{injectionOf, padded}
-use Rattle.params.specs.NameList.{NameList, nameListOf, namesIn, ReadsNames}
 use Rattle.places.specs.Place.{partOf}
 use Rattle.params.specs.declared.bsigs.Bsigs.{Bsigs}
 use Rattle.params.specs.declared.injection.Injection.{Injection}
-use Rattle.params.specs.declared.names.NamesRead.{NamesRead}
 use Rattle.params.specs.declared.sig0.Sig0.{Sig0}
 
 -- a choice of which a test tells one alternative from the other
@@ -86,14 +83,3 @@ module _ {value : List ℕ} {s : Scanned} {r : Sig0} (h : ReadsSig0 value s r) w
     pub sig0-signature : r .signature ≡ bytesOf 64 (headSignatureText s)
     unfolding headSigIn
     sig0-signature = ap (λ (x : HeadSig). x .signature) sig0-is
-
--- ---- the list of names
-
-module _ {l : List ℕ} {r : NamesRead} (h : ReadsNames l r) where
-  pub names-say : r .good ≡ leb (length (splitNames l)) 32
-  unfolding nameListOf
-  names-say = ap (λ (x : NameList). x .good) (h .meaning) ∙ told (λ (x : NameList). x .good) (leb (length (splitNames l)) 32) _ _ refl refl
-
-  pub names-are : leb (length (splitNames l)) 32 ≡ true → namesIn l (r .names) ≡ splitNames l
-  unfolding nameListOf
-  names-are g = ap (λ (x : NameList). x .names) (h .meaning) ∙ rw g

@@ -3,6 +3,4 @@ pub mod PadLaws
 pub mod InjectionLaws
 pub mod BsigsLaws
 pub mod HeadSigLaws
-pub mod SpanLaws
-pub mod NameListLaws
 pub mod Answers

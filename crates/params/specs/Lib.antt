@@ -2,4 +2,3 @@ pub mod Parts
 pub mod Injection
 pub mod BlockSigs
 pub mod HeadSig
-pub mod NameList

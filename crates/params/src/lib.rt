@@ -1,8 +1,7 @@
-// The values of the fields `X-Ouinet-Injection`, `X-Ouinet-BSigs` and `X-Ouinet-Sig0`, and the list of signed names.
+// The values of the fields `X-Ouinet-Injection`, `X-Ouinet-BSigs` and `X-Ouinet-Sig0`.
 mod bsigs; // a key and the size of a block
 mod injection; // an id and a time
 mod limits; // the limits of these values
-mod names; // the list of signed names
 mod parts; // a value gone through part by part
 mod sig0; // a key, a time, the signed names and a signature
 
@@ -10,10 +9,5 @@ pub use bsigs::Bsigs;
 pub use bsigs::read_bsigs;
 pub use injection::Injection;
 pub use injection::read_injection;
-pub use limits::NAME_LIMIT;
-pub use names::Names;
-pub use names::NamesRead;
-pub use names::is_doubled;
-pub use names::read_names;
 pub use sig0::Sig0;
 pub use sig0::read_sig0;

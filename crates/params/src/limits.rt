@@ -10,6 +10,3 @@ pub const TIME_DIGITS: usize = 12;
 pub const BLOCK_LIMIT: u64 = 65_536;
 
 pub const SIZE_DIGITS: usize = 5;
-
-// The most names that a signature may list.
-pub const NAME_LIMIT: usize = 32;

@@ -1,7 +1,7 @@
 // What is handed out: the block that is released, and the values of the accepted head.
 use calls::BLOCK_ROOM;
 ghost use mathlib.Core.Path.{_≡_};
-ghost use Rattle.head.specs.Handing.{handedValue};
+ghost use Rattle.handing.specs.Handing.{handedValue};
 ghost use Rattle.reader.specs.Parts.{blockPart};
 
 // The released block: the first bytes of the block buffer, as many as the reader has released. Empty in a buffer that is too short.
@@ -22,5 +22,5 @@ pub fn block_part(block: &[u8], released: usize) -> &[u8]
 pub fn field_part<'a>(head: &'a [u8], accepted: usize, name: &[u8]) -> &'a [u8]
     ensures { λ r. ⌜ now r ≡ handedValue (now (head .entry)) accepted (now (name .entry)) ⌝ }
 {
-    head::value(head, accepted, name)
+    handing::value(head, accepted, name)
 }

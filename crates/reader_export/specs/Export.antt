@@ -6,7 +6,7 @@ use Prim.Native.Nat.{ℕ}
 use lib.Dec.{eqb, leb}
 use lib.ListN.{length}
 use Rattle.octets.specs.Choice.{pick}
-use Rattle.head.specs.Handing.{handedValue}
+use Rattle.handing.specs.Handing.{handedValue}
 use Rattle.layout.specs.Keys.{keysIn}
 use Rattle.layout.specs.Parts.{Placed, placing, placed}
 use Rattle.layout.specs.Results.{resultSize, wordOf, resultIn}

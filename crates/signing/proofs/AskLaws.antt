@@ -10,7 +10,7 @@ use Rattle.places.specs.Place.{partOf}
 use Rattle.places.specs.Writing.{Placed, placed, wrote}
 use Rattle.places.proofs.WritingLaws.{wrote-front}
 use Rattle.fields.specs.Table.{fieldsIn}
-use Rattle.params.specs.NameList.{namesIn}
+use Rattle.names.specs.NameList.{namesIn}
 use Rattle.params.specs.declared.bsigs.Bsigs.{Bsigs}
 use Rattle.params.specs.declared.injection.Injection.{Injection}
 use Rattle.params.proofs.Answers.{injection-is, bsigs-is, sig0-signature}

@@ -3,8 +3,8 @@ use mathlib.Core.List.{List, [], _∷_, _++_}
 use Prim.Native.Nat.{ℕ}
 use Rattle.fields.specs.Table.{fieldsIn}
 use Rattle.fields.specs.declared.table.Fields.{Fields}
-use Rattle.params.specs.NameList.{namesIn}
-use Rattle.params.specs.declared.names.Names.{Names}
+use Rattle.names.specs.NameList.{namesIn}
+use Rattle.names.specs.declared.reading.Names.{Names}
 use Rattle.stream.specs.Lines.{Field}
 use Rattle.stream.specs.Signatures.{listedFields, responseStatusName, createdName}
 use Rattle.stream.specs.Signing.{signedFields, signingLine, joined}

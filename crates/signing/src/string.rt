@@ -2,7 +2,7 @@
 // room and returns the place after what it wrote.
 use crate::line;
 use fields::Fields;
-use params::Names;
+use names::Names;
 ghost use mathlib.Core.Path.{_≡_};
 ghost use Rattle.places.specs.Writing.{placed, wrote};
 ghost use Rattle.signing.specs.Writing.{linesIn, stringIn};
@@ -11,12 +11,12 @@ ghost use Rattle.signing.specs.Writing.{linesIn, stringIn};
 fn put_fields(text: &[u8], f: Fields, list: &[u8], n: Names, out: &mut [u8], from: usize) -> usize
     ensures { λ r. ⌜ placed r (now (out .exit)) ≡ wrote (now (out .entry)) from (linesIn (now (text .entry)) f (now (list .entry)) n) ⌝ }
 {
-    let end = head::count(n);
+    let end = names::count(n);
     let mut at = from;
     let mut i = 2;
     while i < end {
-        let name = head::name(list, n, i);
-        at = line::put_next(out, at, name, head::value_of(text, f, name));
+        let name = names::name(list, n, i);
+        at = line::put_next(out, at, name, fields::value_of(text, f, name));
         i += 1;
     }
     at

@@ -1,7 +1,7 @@
 // The reader's state, by subject. It goes in by value and comes back by value; the bytes of head, block and trailer lie in lent
 // buffers.
 use crate::phase::Phase;
-use chunk::BlockNumber;
+use blocks::BlockNumber;
 ghost use mathlib.Core.Path.{_≡_};
 ghost use Rattle.state.specs.Desk.{freshReader, renewed as renewedReader, inPhase, withLine, withHash};
 

@@ -1,5 +1,5 @@
 // The words of the reader.
-use chunk::ByteOffset;
+use blocks::ByteOffset;
 ghost use mathlib.Core.Path.{_≡_};
 ghost use Rattle.state.specs.Desk.{goesOn};
 

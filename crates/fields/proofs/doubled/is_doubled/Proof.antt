@@ -11,7 +11,8 @@ use borrow.Author.Tests.{lt-ltb, le-ltb}
 use lib.ListN.{getD}
 use Rattle.stream.specs.Lines.{Field}
 use Rattle.stream.specs.Fields.{among, isDoubled, namesOf}
-use Rattle.fields.specs.Table.{entryName, noEntry, fieldsIn}
+use Rattle.field_lines.specs.Entries.{entryName, noEntry}
+use Rattle.fields.specs.Table.{fieldsIn}
 use Rattle.fields.proofs.TableLaws.{namesFrom, all-from, rows-on, rows-out, among-hit, among-next, among-out}
 use Rattle.fields.proofs.doubled.is_doubled.Statement.{statement}
 use Rattle.fields.proofs.doubled.is_doubled.Tie as tie

@@ -9,7 +9,8 @@ use denote.Ref.{now}
 use lib.ListN.{length, drop, length-set}
 use Rattle.stream.specs.Lines.{textLines}
 use Rattle.text.proofs.LineLaws.{line-within, text-none, text-end}
-use Rattle.fields.specs.Answers.{answer, ReadsFields}
+use Rattle.field_lines.specs.Reading.{answer}
+use Rattle.fields.specs.Answers.{ReadsFields}
 use Rattle.fields.specs.Table.{fieldsFrom}
 use Rattle.fields.proofs.FillLaws.{from-length, AllWithin, empty-within, set-within, in-from}
 use Rattle.fields.proofs.LinesLaws.{readOn, read-all, read-end, turn-bad, turn-room, turn-on}

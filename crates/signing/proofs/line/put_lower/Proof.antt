@@ -1,9 +1,9 @@
 -- The bytes that are written so far, in lower case, stand over those of the entry. Assumes nothing.
 use borrow.Author.Needs.{needs}
 use denote.Ref.{now}
-use mathlib.Core.Path.{_≡_, refl, sym, _∙_}
+use mathlib.Core.Path.{_≡_, refl, sym, ap, _∙_}
 use native.Mathlib.Omega.{arith}
-use Prim.Native.Nat.{_-_, _≤_}
+use Prim.Native.Nat.{_-_, _≤_, min}
 use lib.ListN.{length, length-set}
 use lib.Seq.{paste, paste-zero}
 use Rattle.stream.specs.Bytes.{lowered}
@@ -30,7 +30,7 @@ least-requires c κs = search needs
 loop-holds : tie.Need-loop-holds Inv-loop μ-loop
 loop-holds c =
     let a = c .before .before .before .before .args in
-    (omega arith, cc, refl, paste-zero (now (a .out)) (a .at) (lowered (now (a .bytes))))
+    (omega arith, c .least .ensures ∙ ap (min (length (now (a .bytes)))) (c .before .less .ensures), refl, paste-zero (now (a .out)) (a .at) (lowered (now (a .bytes))))
 
 shared-slice-read-lower : tie.Need-shared-slice-read-lower Inv-loop μ-loop
 shared-slice-read-lower c = search needs

@@ -7,8 +7,8 @@ use borrow.Author.Needs.{needs}
 use denote.Ref.{now}
 use lib.ListN.{length, drop}
 use Rattle.fields.specs.Table.{fieldsIn}
-use Rattle.head.proofs.NameLaws.{names-count}
-use Rattle.params.specs.NameList.{namesIn}
+use Rattle.names.proofs.NameLaws.{names-count}
+use Rattle.names.specs.NameList.{namesIn}
 use Rattle.stream.specs.Lines.{Field}
 use Rattle.stream.specs.Signing.{signedFields}
 use Rattle.places.specs.Writing.{wrote}

@@ -1,7 +1,7 @@
 -- The two lines that are no fields, and the lines of the fields. Assumes nothing.
 use denote.Ref.{now}
 use Rattle.fields.specs.Table.{fieldsIn}
-use Rattle.params.specs.NameList.{namesIn}
+use Rattle.names.specs.NameList.{namesIn}
 use Rattle.signing.proofs.StringLaws.{string-written}
 use borrow.Author.Needs.{needs}
 use Rattle.signing.proofs.string.put_string.Statement.{statement}

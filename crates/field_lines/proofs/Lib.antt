@@ -1,0 +1,4 @@
+pub mod AnswerLaws
+pub mod FieldLineLaws
+pub mod StatusLaws
+pub mod TrailerLaws

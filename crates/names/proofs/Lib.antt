@@ -1,0 +1,4 @@
+pub mod SpanLaws
+pub mod NameListLaws
+pub mod NameLaws
+pub mod Answers
