@@ -23,7 +23,7 @@ use Rattle.stream.specs.Stream as C
 use Rattle.stream.proofs.Sound.{not-whole-empty}
 use Rattle.handing.proofs.ValueLaws.{handed-signed}
 use Rattle.state.specs.Desk.{Desk, desk, pending, refuse}
-use Rattle.steps.specs.Push as Push
+use Rattle.line_steps.specs.NextLine as Line
 use Rattle.state.specs.Run.{Fed}
 use Rattle.state.specs.declared.phase.Phase.{Phase}
 use Rattle.state.proofs.BufferLaws.{length-cleared}
@@ -135,9 +135,9 @@ module _ (ring : Ring) (h : Handed) where
     counts : Counts (releasing (d .reader) size next) (after p b)
     unfolding releasing following
     counts =
-        let i : d .reader .number .0 ≡ p .blocks = a .blocks in
+        let i : d .reader .chain .number .0 ≡ p .blocks = a .blocks in
         let m : p .blocks ≤ blockOffset s p = le-mul-of-pos-right (p .blocks) (a .sound .show .some) in
-        let n : min (d .reader .number .0 + 1) largest ≡ suc (p .blocks) = omega (arith, a .sound .body) in
+        let n : min (d .reader .chain .number .0 + 1) largest ≡ suc (p .blocks) = omega (arith, a .sound .body) in
         record { blocks = n; hash = rw (n, ne-eqb (suc (p .blocks)) 0 (λ e. omega arith)) (a .hash) }
 
     abbrev handed : Handed
@@ -146,7 +146,7 @@ module _ (ring : Ring) (h : Handed) where
     released-holds : Holds ring (desk (releasing (d .reader) size next) (d .head) (d .block) (d .question)) handed (running (C.announced s (after p b) (bodyWith s p b) next) [])
     unfolding releasing
     released-holds =
-        let e : Push.bodyWith (d .reader) size ≡ bodyWith s p b = body-now (d .reader) s p b size (a .bytes .count) (a .keeps) (a .blocks) (a .sound) in
+        let e : Line.bodyWith (d .reader) size ≡ bodyWith s p b = body-now (d .reader) s p b size (a .bytes .count) (a .keeps) (a .blocks) (a .sound) in
         record {
           stands = announced-by _ s (after p b) _ (bodyWith s p b) next e (record { id = a .keeps .id; size = a .keeps .size; key = a .keeps .key }) counts (a .onward);
           lent = still lent _ refl refl refl refl refl;
@@ -156,7 +156,7 @@ module _ (ring : Ring) (h : Handed) where
     block-answer-follows : (good : Bool) → CallFollows ring h (answer good) (blockAnswer size next d good) (respond (rules ring) (asked (F.blockGrant ring d s p next b)) (answer good))
     unfolding blockAnswer respond rules wordSeen releasing
     block-answer-follows true =
-        let o : Push.offsetNow (d .reader) .0 ≡ blockOffset s p = offset-now (d .reader) s p (length b) (a .keeps) (a .blocks) (a .sound) in
+        let o : Line.offsetNow (d .reader) .0 ≡ blockOffset s p = offset-now (d .reader) s p (length b) (a .keeps) (a .blocks) (a .sound) in
         let n : size ≡ length b = sym (a .bytes .count) in
         let t : blockPart (d .block) size ≡ b = part-is (d .block) size (lent .block) ∙ a .bytes .bytes in
         follows _ (event (message (block (blockOffset s p) b))) 0 _ released-holds (λ i. event (message (Shown.block (o i) (n i) (t i)))) refl

@@ -24,7 +24,7 @@ use Rattle.line_steps.specs.FirstLine.{firstAnswered, firstGathered, pushFirstL
 use Rattle.line_steps.specs.NextLine.{nextJudged, nextAnswered, nextGathered, pushNextLine}
 use Rattle.body_steps.specs.Data.{pushData, pushDataEnd}
 use Rattle.body_steps.specs.Trailer.{trailerGathered, pushTrailer}
-use Rattle.steps.specs.Push as Push
+use Rattle.line_steps.specs.NextLine as Line
 use Rattle.state.specs.Run.{follow, runOf}
 use Rattle.state.specs.declared.phase.Phase.{Phase}
 use Rattle.state.specs.declared.phase.Phase.the-variants as P
@@ -73,11 +73,11 @@ fine-first-line : (d : Desk) (have x : ℕ) → Fine (pushFirstLine d have x)
 unfolding pushFirstLine firstGathered lineJudged
 fine-first-line d have x =
     fine-pick (leb lineLimit have) _ _ (fine-refuse 6 0 d (omega arith))
-    (fine-pick (isWholeLine (take (have + 1) (set (d .reader .line) have x))) _ _ (fine-first _ (d .reader .«block_size») _ _ _ refl) refl)
+    (fine-pick (isWholeLine (take (have + 1) (set (d .reader .line) have x))) _ _ (fine-first _ (d .reader .fixed .«block_size») _ _ _ refl) refl)
 
 fine-next : (d : Desk) (size N : ℕ) (full : Bool) (sofar : ℕ) (l signature signature′ : List ℕ) (fault : ℕ) → lineFault N true full sofar l ≡ fault
     → Fine (nextAnswered d size (unlessFault fault (goodLine (chunkSize l) signature) .answer) signature′)
-unfolding nextAnswered Push.asked
+unfolding nextAnswered Line.asked
 fine-next d size N full sofar l signature signature′ zero e = refl
 fine-next d size N full sofar l signature signature′ (suc n) e = fine-refuse (suc n) size d (line-number N true full sofar l n e)
 
@@ -86,7 +86,7 @@ unfolding pushNextLine nextGathered nextJudged lineJudged
 fine-next-line d have size x =
     fine-pick (leb lineLimit have) _ _ (fine-refuse 6 size d (omega arith))
     (fine-pick (isWholeLine (take (have + 1) (set (d .reader .line) have x))) _ _
-    (fine-next _ size (d .reader .«block_size») (eqb size (d .reader .«block_size»)) _ _ _ _ _ refl) refl)
+    (fine-next _ size (d .reader .fixed .«block_size») (eqb size (d .reader .fixed .«block_size»)) _ _ _ _ _ refl) refl)
 
 fine-trailer : (d : Desk) (have total x : ℕ) → Fine (pushTrailer d have total x)
 unfolding pushTrailer trailerGathered

@@ -38,7 +38,7 @@ use Rattle.agreement.proofs.NextSteps.{front-length}
 use Rattle.agreement.proofs.Refusals.{refuses, head-number}
 
 module _ (ring : Ring) (fields : List Field) (d : Desk) (x : ℕ) (lent : Lent d fields) (none : d .reader .released ≡ 0)
-    (early : d .reader .accepted ≡ 0) (have : ℕ) (g : List ℕ) where
+    (early : d .reader .fixed .accepted ≡ 0) (have : ℕ) (g : List ℕ) where
   abbrev l : List ℕ
   l = g ++ x ∷ []
 

@@ -48,7 +48,7 @@ pub shown : {ring : Ring} (c : R.Call) (h : Handed) (o : Out Question Release La
 unfolding seen
 shown c h o s k w n =
     let b : blockPart (c .after .block) (c .after .reader .released) ≡ h .released = part-is _ _ (k .lent .block) ∙ k .block in
-    let v : (name : List ℕ) → handedValue (c .after .head) (c .after .reader .accepted) name ≡ valueOf name (h .signed) = k .lent .value in
+    let v : (name : List ℕ) → handedValue (c .after .head) (c .after .reader .fixed .accepted) name ≡ valueOf name (h .signed) = k .lent .value in
     λ i. record { out = (w i, n i); block = b i; value = λ name. v name i }
 
 pub follows : {ring : Ring} {h : Handed} {r : Request} (c : R.Call) (w : Word Question Release LastWord) (n : ℕ) (s : Standing)

@@ -20,12 +20,11 @@ use Rattle.stream.specs.Stream as C
 use Rattle.stream.specs.Trailer.{isWholeTrailer, isTrailer}
 use Rattle.stream.proofs.Sound.{SoundShow, Sound, not-whole-empty}
 use Rattle.stream.proofs.SoundJudge.{SoundSays, judge-sound}
-use Rattle.state.specs.Desk.{Desk, desk, inPhase, on, moved, refuse, noSignature}
+use Rattle.state.specs.Desk.{Desk, desk, inPhase, on, moved, refuse, noSignature, lined}
 use Rattle.state.specs.Desk as D
 use Rattle.line_steps.specs.FirstLine.{firstAnswered, firstGathered, pushFirstLine}
 use Rattle.body_steps.specs.Trailer.{trailerGathered, pushTrailer}
-use Rattle.state.specs.Desk.{lined}
-use Rattle.steps.specs.Push as Push
+use Rattle.line_steps.specs.FirstLine as Line
 use Rattle.state.specs.declared.phase.Phase.{Phase}
 use Rattle.state.specs.declared.phase.Phase.the-variants as P
 use Rattle.state.specs.declared.reader.Reader.{Reader}
@@ -38,21 +37,21 @@ use Rattle.agreement.proofs.Refusals.{refuses, line-number}
 
 -- the phase that a line of so many bytes announces stands for the context that it announces
 pub announced-at : {ring : Ring} (d : Desk) (s : Show) (p : Past) (total n : ℕ) → Keeps (d .reader) s → Counts (d .reader) p
-    → Sound (announced s p total n) → At ring d (Push.announced n total) (running (announced s p total n) [])
+    → Sound (announced s p total n) → At ring d (Line.announced n total) (running (announced s p total n) [])
 announced-at d s p total zero k c h = F.trailer h (none-gathered (d .block)) (not-whole-empty (C.trailer total) h)
 announced-at d s p total (suc n) k c h = rw (ne-eqb (suc n) 0 (λ e. omega arith)) (F.blockData k c h (none-gathered (d .block)) (not-whole-empty (C.blockData s p (suc n)) h))
 
 -- the same where the reader has counted the total
 pub announced-by : {ring : Ring} (d : Desk) (s : Show) (p : Past) (t total n : ℕ) → t ≡ total → Keeps (d .reader) s → Counts (d .reader) p
-    → Sound (announced s p total n) → At ring d (Push.announced n t) (running (announced s p total n) [])
+    → Sound (announced s p total n) → At ring d (Line.announced n t) (running (announced s p total n) [])
 announced-by d s p t total n e k c h = rw e (announced-at d s p total n k c h)
 
 -- before the first block
-pub none-before : (r : Reader) → r .number .0 ≡ 0 → Counts r nothing
+pub none-before : (r : Reader) → r .chain .number .0 ≡ 0 → Counts r nothing
 none-before r e = record { blocks = e; hash = rw e refl }
 
 module _ (ring : Ring) (fields : List Field) (d : Desk) (x : ℕ) (lent : Lent d fields) (none : d .reader .released ≡ 0) where
-  module _ (s : Show) (k : Keeps (d .reader) s) (sound : SoundShow s) (zero-blocks : d .reader .number .0 ≡ 0) (have : ℕ) (g : List ℕ) where
+  module _ (s : Show) (k : Keeps (d .reader) s) (sound : SoundShow s) (zero-blocks : d .reader .chain .number .0 ≡ 0) (have : ℕ) (g : List ℕ) where
     abbrev l : List ℕ
     l = g ++ x ∷ []
 
@@ -89,7 +88,7 @@ module _ (ring : Ring) (fields : List Field) (d : Desk) (x : ℕ) (lent : Lent d
     first-step a e =
         let m : have < lineLimit = rw (a .count) at (short (C.firstLine s) g e) in
         let b = gather (d .reader .line) g have x a (rw (lent .line) m) in
-        rw (lt-leb lineLimit have m, b .bytes) (by (d .reader .«block_size») (k .size) (isWholeLine l) refl (at-most (C.firstLine s) g x e) b)
+        rw (lt-leb lineLimit have m, b .bytes) (by (d .reader .fixed .«block_size») (k .size) (isWholeLine l) refl (at-most (C.firstLine s) g x e) b)
 
   -- ---- the trailer
 

@@ -24,13 +24,13 @@ use Rattle.stream.proofs.Sound.{not-whole-empty}
 use Rattle.stream.proofs.Truth.{left-holds, right-holds}
 use Rattle.handing.specs.Handing.{handedValue}
 use Rattle.handing.proofs.ValueLaws.{handed-none}
-use Rattle.state.specs.Desk.{Desk, desk}
+use Rattle.state.specs.Desk.{Desk, desk, freshReader}
 use Rattle.state.specs.declared.reader.Reader.{Reader}
 use Rattle.calls.specs.Call as R
 use Rattle.calls.specs.Call.{areRoomy, isReading, unchanged, recalled}
 use Rattle.reader.specs.Feed.{takenFrom, feedOf}
 use Rattle.calls.specs.Answer.{answerOf, endOf}
-use Rattle.reader.specs.Parts.{freshReader, blockPart}
+use Rattle.reader.specs.Parts.{blockPart}
 use Rattle.agreement.specs.Plain.{Handed, nothing, handedAfter, shows, showing, plainlyShown}
 use Rattle.agreement.specs.Run.{Call, same, other, called, aside, runCall, wordSeen, seen, runFrom, run, plainCall, plainCalls}
 use Rattle.agreement.proofs.Stands.{Standing}
@@ -52,8 +52,8 @@ pub misfit-unchanged : (r : Reader) (h b q : List ℕ) (keys : KeyRing) (k : Req
     → called keys (desk r h b q) k ≡ unchanged 2 (desk r h b q)
 unfolding loanFits feedOf answerOf endOf
 misfit-unchanged r h b q keys (feed piece) e = rw (loan-same h b q keys (feed piece) ∙ e)
-misfit-unchanged r h b q keys (answer good) e = rw (neither (areRoomy h b q) (loan-same h b q keys (answer good) ∙ e))
-misfit-unchanged r h b q keys end e = rw (neither (areRoomy h b q) (loan-same h b q keys end ∙ e))
+misfit-unchanged r h b q keys (answer good) e = rw (neither (areRoomy (length h) (length b) (length q)) (loan-same h b q keys (answer good) ∙ e))
+misfit-unchanged r h b q keys end e = rw (neither (areRoomy (length h) (length b) (length q)) (loan-same h b q keys end ∙ e))
 
 called-follows : (keys : KeyRing) (d : Desk) (h : Handed) (s : Standing) (k : Request) → Holds (ringOf keys) d h s
     → CallFollows (ringOf keys) h k (called keys d k) (turn (rules (ringOf keys)) s (S.call (ringFits keys k) k))
@@ -76,7 +76,7 @@ aside-unchanged d h b q keys k e = rw (misfit-unchanged (d .reader) h b q keys k
 record Idle (d : Desk) (h : Handed) : Type 0 where
   short : haveRoom (d .head) (d .block) (d .question) ≡ false
   block : blockPart (d .block) (d .reader .released) ≡ h .released
-  value : (name : List ℕ) → handedValue (d .head) (d .reader .accepted) name ≡ valueOf name (h .signed)
+  value : (name : List ℕ) → handedValue (d .head) (d .reader .fixed .accepted) name ≡ valueOf name (h .signed)
 
 idle-shown : (d : Desk) (h : Handed) → Idle d h → seen (unchanged 2 d) ≡ shows h (misused 2, 0)
 unfolding seen wordSeen

@@ -26,10 +26,9 @@ use Rattle.stream.proofs.MessageLaws.{message-length}
 use Rattle.stream.proofs.RulesHold.{rules-hold}
 use Rattle.stream.proofs.Sound.{SoundBlock}
 use Rattle.stream.proofs.SoundJudge.{SoundSays, judge-sound}
-use Rattle.state.specs.Desk.{Desk, on}
+use Rattle.state.specs.Desk.{Desk, on, lined}
 use Rattle.line_steps.specs.NextLine.{offsetNow, nextJudged, hashNow, messageNow, nextAnswered, nextGathered, pushNextLine}
-use Rattle.state.specs.Desk.{lined}
-use Rattle.steps.specs.Push as Push
+use Rattle.line_steps.specs.NextLine as Line
 use Rattle.state.specs.declared.phase.Phase.the-variants as P
 use Rattle.state.specs.declared.reader.Reader.{Reader}
 use Rattle.state.specs.declared.word.Word.the-variants as W
@@ -42,13 +41,13 @@ use Rattle.agreement.proofs.Refusals.{refuses, line-number}
 -- ---- places
 
 -- the places of blocks within the body's limit are far below the largest number
-pub offset-now : (r : Reader) (s : Show) (p : Past) (n : ℕ) → Keeps r s → r .number .0 ≡ p .blocks → SoundBlock s p n → offsetNow r .0 ≡ blockOffset s p
+pub offset-now : (r : Reader) (s : Show) (p : Past) (n : ℕ) → Keeps r s → r .chain .number .0 ≡ p .blocks → SoundBlock s p n → offsetNow r .0 ≡ blockOffset s p
 unfolding offsetAt
 offset-now r s p n k e h = rw (k .size, e) (omega (arith, h .body))
 
-pub body-now : (r : Reader) (s : Show) (p : Past) (b : List ℕ) (n : ℕ) → length b ≡ n → Keeps r s → r .number .0 ≡ p .blocks → SoundBlock s p (length b)
-    → Push.bodyWith r n ≡ bodyWith s p b
-unfolding Push.bodyWith
+pub body-now : (r : Reader) (s : Show) (p : Past) (b : List ℕ) (n : ℕ) → length b ≡ n → Keeps r s → r .chain .number .0 ≡ p .blocks → SoundBlock s p (length b)
+    → Line.bodyWith r n ≡ bodyWith s p b
+unfolding Line.bodyWith
 body-now r s p b n c k e h = rw (← c, offset-now r s p (length b) k e h) (omega (arith, h .body))
 
 -- ---- a message at the front of a buffer
@@ -96,7 +95,7 @@ module _ (ring : Ring) (fields : List Field) (d : Desk) (x : ℕ) (lent : Lent d
 
   -- the question as it is seen is the reading's
   seen-is : carriesSignature l ≡ true → (e : Desk) → e .question ≡ messageNow d′ size .bytes
-      → wordSeen (W.Question (messageNow d′ size .count) (d′ .reader .key)) (signatureOf l) e ≡ event (question (blockQuestion s p b l))
+      → wordSeen (W.Question (messageNow d′ size .count) (d′ .reader .fixed .key)) (signatureOf l) e ≡ event (question (blockQuestion s p b l))
   unfolding wordSeen blockQuestion
   seen-is c e q =
       let m : take (messageNow d′ size .count) (e .question) ≡ message =
@@ -104,12 +103,12 @@ module _ (ring : Ring) (fields : List Field) (d : Desk) (x : ℕ) (lent : Lent d
       let z : leb (messageNow d′ size .count) (length (e .question)) ≡ true =
       rw (q, message-is, front-length message (d .question) fits) (le-leb (length message) (length (d .question)) fits) in
       let t : signatureOf l ≡ lineSignature l = rw c refl in
-      let n : d′ .reader .key ≡ s .keyNumber = u .keeps .key in
+      let n : d′ .reader .fixed .key ≡ s .keyNumber = u .keeps .key in
       rw z (λ i. event (question (record { message = m i; signature = t i; keyNumber = n i })))
 
   question-follows : lineFault (s .size) true (eqb (length b) (s .size)) (bodyWith s p b) l ≡ 0 → SoundSays (acceptBlock s p b l)
-      → Follows ring fields (Push.asked d′ size (chunkSize l) (signatureOf l)) (rule (acceptBlock s p b l))
-  unfolding Push.asked acceptBlock
+      → Follows ring fields (Line.asked d′ size (chunkSize l) (signatureOf l)) (rule (acceptBlock s p b l))
+  unfolding Line.asked acceptBlock
   question-follows e h =
       F.says (seen-is (carries (s .size) (eqb (length b) (s .size)) (bodyWith s p b) l e) _ refl) refl
       (record {
@@ -140,7 +139,7 @@ module _ (ring : Ring) (fields : List Field) (d : Desk) (x : ℕ) (lent : Lent d
   judged-is : nextJudged (d′ .reader) size l ≡ lineJudged (s .size) true (eqb (length b) (s .size)) (bodyWith s p b) l
   unfolding nextJudged
   judged-is =
-      let e : Push.bodyWith (d′ .reader) size ≡ bodyWith s p b =
+      let e : Line.bodyWith (d′ .reader) size ≡ bodyWith s p b =
       body-now (d′ .reader) s p b size (u .bytes .count) (keeps-on _ _ _ (u .keeps)) (u .counts .blocks) (u .sound) in
       let n : size ≡ length b = sym (u .bytes .count) in
       λ i. lineJudged (u .keeps .size i) true (eqb (n i) (u .keeps .size i)) (e i) l

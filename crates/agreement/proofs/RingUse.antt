@@ -22,7 +22,7 @@ use Rattle.line_steps.specs.FirstLine.{firstAnswered, firstGathered, pushFirstL
 use Rattle.line_steps.specs.NextLine.{nextAnswered, nextGathered, pushNextLine}
 use Rattle.body_steps.specs.Data.{pushData, pushDataEnd}
 use Rattle.body_steps.specs.Trailer.{trailerGathered, pushTrailer}
-use Rattle.steps.specs.Push as Push
+use Rattle.line_steps.specs.NextLine as Line
 use Rattle.state.specs.Run.{follow, runOf}
 use Rattle.state.specs.declared.phase.Phase.{Phase}
 use Rattle.state.specs.declared.phase.Phase.the-variants as P
@@ -53,7 +53,7 @@ past-first d (A.Refused n) = past-refuse n 0 d
 past-first d (A.Good size) = past-phase (eqb size 0) (P.Trailer 0 0) (P.Data 0 size) refl refl
 
 past-next : (d : Desk) (size : ℕ) (a : LineAnswer) (signature : List ℕ) → Past (nextAnswered d size a signature)
-unfolding nextAnswered Push.asked
+unfolding nextAnswered Line.asked
 past-next d size (A.Refused n) signature = past-refuse n size d
 past-next d size (A.Good next) signature = tt
 

@@ -27,7 +27,7 @@ use Rattle.state.specs.Desk as D
 use Rattle.state.specs.declared.phase.Phase.{Phase}
 use Rattle.state.specs.declared.phase.Phase.the-variants as P
 use Rattle.state.specs.declared.reader.Reader.{Reader}
-use Rattle.state.specs.declared.word.Word as Steps
+use Rattle.state.specs.declared.word.Word as State
 use Rattle.agreement.specs.Plain.{toldEvent}
 use Rattle.agreement.specs.Run.{wordSeen}
 
@@ -40,14 +40,14 @@ pub record Gathered (buffer : List ℕ) (n : ℕ) (g : List ℕ) : Type 0 where
 
 -- what the reader keeps of the head
 pub record Keeps (r : Reader) (s : Show) : Type 0 where
-  pub id : take (r .«id_length») (r .id) ≡ s .id
-  pub size : r .«block_size» ≡ s .size
-  pub key : r .key ≡ s .keyNumber
+  pub id : take (r .fixed .«id_length») (r .fixed .id) ≡ s .id
+  pub size : r .fixed .«block_size» ≡ s .size
+  pub key : r .fixed .key ≡ s .keyNumber
 
 -- and of the blocks before
 pub record Counts (r : Reader) (p : Past) : Type 0 where
-  pub blocks : r .number .0 ≡ p .blocks
-  pub hash : pick (eqb (r .number .0) 0) [] (r .hash) ≡ p .hash
+  pub blocks : r .chain .number .0 ≡ p .blocks
+  pub hash : pick (eqb (r .chain .number .0) 0) [] (r .chain .hash) ≡ p .hash
 
 -- the buffers and the line have their room, and the fields are those whose values are handed out
 pub record Lent (d : Desk) (fields : List Field) : Type 0 where
@@ -55,7 +55,7 @@ pub record Lent (d : Desk) (fields : List Field) : Type 0 where
   pub block : blockLimit ≤ length (d .block)
   pub question : headLimit ≤ length (d .question)
   pub line : length (d .reader .line) ≡ lineLimit
-  pub value : (name : List ℕ) → handedValue (d .head) (d .reader .accepted) name ≡ valueOf name fields
+  pub value : (name : List ℕ) → handedValue (d .head) (d .reader .fixed .accepted) name ≡ valueOf name fields
 
 -- ---- the states
 
@@ -76,14 +76,14 @@ module _ (ring : Ring) (d : Desk) where
     pub good : headFault ring l ≡ 0
     pub sound : SoundShow (showOf ring (headOf l))
     pub keeps : Keeps (d .reader) (showOf ring (headOf l))
-    pub status : d .reader .status ≡ decimalValue (statusDigits (headOf l))
-    pub none : d .reader .number .0 ≡ 0
+    pub status : d .reader .fixed .status ≡ decimalValue (statusDigits (headOf l))
+    pub none : d .reader .chain .number .0 ≡ 0
     pub taken : d .reader .released ≡ 0
 
   pub record BlockAsked (s : Show) (p : Past) (size next : ℕ) (b : List ℕ) : Type 0 where
     pub keeps : Keeps (d .reader) s
-    pub blocks : d .reader .number .0 ≡ p .blocks
-    pub hash : d .reader .hash ≡ chained (p .hash) b
+    pub blocks : d .reader .chain .number .0 ≡ p .blocks
+    pub hash : d .reader .chain .hash ≡ chained (p .hash) b
     pub sound : SoundBlock s p (length b)
     pub onward : Sound (announced s (after p b) (bodyWith s p b) next)
     pub bytes : Gathered (d .block) size b
@@ -98,9 +98,9 @@ module _ (ring : Ring) (d : Desk) where
 
   -- in the phase, the reader and its buffers stand for the state
   pub data At : Phase → Standing → Type 0 where
-    head : {n : ℕ} {g : List ℕ} → d .reader .accepted ≡ 0 → Gathered (d .head) n g → isWhole C.head g ≡ false → At (P.Head n) (running C.head g)
+    head : {n : ℕ} {g : List ℕ} → d .reader .fixed .accepted ≡ 0 → Gathered (d .head) n g → isWhole C.head g ≡ false → At (P.Head n) (running C.head g)
     headAsked : {n : ℕ} {l : List ℕ} → HeadAsked n l → At (P.HeadAsked n) (asked (headGrant l))
-    firstLine : {n : ℕ} {g : List ℕ} {s : Show} → Keeps (d .reader) s → SoundShow s → d .reader .number .0 ≡ 0
+    firstLine : {n : ℕ} {g : List ℕ} {s : Show} → Keeps (d .reader) s → SoundShow s → d .reader .chain .number .0 ≡ 0
         → Gathered (d .reader .line) n g → isWhole (C.firstLine s) g ≡ false → At (P.FirstLine n) (running (C.firstLine s) g)
     blockData : {have size : ℕ} {g : List ℕ} {s : Show} {p : Past} → Keeps (d .reader) s → Counts (d .reader) p → SoundBlock s p size
         → Gathered (d .block) have g → isWhole (C.blockData s p size) g ≡ false → At (P.Data have size) (running (C.blockData s p size) g)
@@ -135,6 +135,6 @@ isRelease (last l) = false
 -- what a byte does to the reader is what it does to the machine
 pub data Follows (ring : Ring) (fields : List Field) : Next → Step Context Question Release LastWord → Type 0 where
   on : {d : Desk} {c : Context} {g : List ℕ} → Reads ring fields d (running c g) → Follows ring fields (D.on d) (M.on c g)
-  says : {d : Desk} {s : Standing} {w : Steps.Word} {signature : List ℕ} {e : Event Question Release LastWord}
+  says : {d : Desk} {s : Standing} {w : State.Word} {signature : List ℕ} {e : Event Question Release LastWord}
       → wordSeen w signature d ≡ event (toldEvent e) → isRelease e ≡ false → Reads ring fields d s
       → Follows ring fields (D.stop w signature d) (M.decides e s)

@@ -13,13 +13,13 @@ use Rattle.sections.specs.Calls.{Request, feed, answer, end, Word, more, event,
 use Rattle.sections.specs.Calls as S
 use Rattle.stream.specs.Events.{Question, LastWord, closed, refused}
 use Rattle.handing.specs.Handing.{handedValue}
-use Rattle.state.specs.Desk.{Desk, desk}
+use Rattle.state.specs.Desk.{Desk, desk, freshReader}
 use Rattle.state.specs.declared.word.Word.the-variants as W
-use Rattle.state.specs.declared.word.Word as Steps
+use Rattle.state.specs.declared.word.Word as State
 use Rattle.calls.specs.Call as R
 use Rattle.reader.specs.Feed.{feedOf}
 use Rattle.calls.specs.Answer.{answerOf, endOf}
-use Rattle.reader.specs.Parts.{freshReader, blockPart}
+use Rattle.reader.specs.Parts.{blockPart}
 use Rattle.agreement.specs.Loans.{loanFits}
 use Rattle.agreement.specs.Shown.{Told, headAccepted, block, Shown}
 
@@ -63,7 +63,7 @@ abbrev pub blockSeen : Desk → List ℕ
 blockSeen d = blockPart (d .block) (d .reader .released)
 
 abbrev pub valueSeen : Desk → List ℕ → List ℕ
-valueSeen d name = handedValue (d .head) (d .reader .accepted) name
+valueSeen d name = handedValue (d .head) (d .reader .fixed .accepted) name
 
 -- the message at the front of the question buffer, of so many bytes; a length past the buffer would be no question
 abbrev pub questionSeen : ℕ → ℕ → List ℕ → List ℕ → Word Question Told LastWord
@@ -71,7 +71,7 @@ questionSeen n key signature q =
     pick (leb n (length q)) (event (question (record { message = take n q; signature = signature; keyNumber = key }))) more
 
 -- the word, with the signature, and the reader and the buffers after the call
-unfoldable pub wordSeen : Steps.Word → List ℕ → Desk → Word Question Told LastWord
+unfoldable pub wordSeen : State.Word → List ℕ → Desk → Word Question Told LastWord
 wordSeen W.More signature d = more
 wordSeen (W.Question n key) signature d = questionSeen n key signature (d .question)
 wordSeen (W.Head status) signature d = event (message (headAccepted status (valueSeen d)))

@@ -58,4 +58,4 @@ unfolding blockPart
 short-block d h = rw (lt-leb blockLimit (length (d .block)) h)
 
 pub short-head : (d : Desk) (name : List ℕ) → length (d .head) < headLimit → valueSeen d name ≡ []
-short-head d name h = room-small (d .head) (d .reader .accepted) name h
+short-head d name h = room-small (d .head) (d .reader .fixed .accepted) name h

@@ -10,9 +10,8 @@ use Rattle.ring.specs.declared.KeyRecord.{KeyRecord}
 use Rattle.sections.specs.Calls.{Request, feed, answer, end}
 use Rattle.lent.specs.Table.{keysOf}
 use Rattle.lent.proofs.TableLaws.{feed-lent, count-fits, ring-lent}
-use Rattle.state.specs.Desk.{Desk, desk}
+use Rattle.state.specs.Desk.{Desk, desk, freshReader}
 use Rattle.calls.specs.Call as R
-use Rattle.reader.specs.Parts.{freshReader}
 use Rattle.stream.specs.Limits.{ringLimit}
 use Rattle.stream.specs.Stream.{plainReading}
 use Rattle.sections.specs.Resuming.{Resumes, events, answersHeard, Tracks}

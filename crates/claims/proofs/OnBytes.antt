@@ -8,9 +8,8 @@ use Rattle.layout.specs.State.{decoded}
 use Rattle.ring.specs.Keys.{ringOf}
 use Rattle.ring.specs.declared.KeyRing.{KeyRing}
 use Rattle.sections.specs.Calls.{Request, feed, answer, end}
-use Rattle.state.specs.Desk.{Desk, desk}
+use Rattle.state.specs.Desk.{Desk, desk, freshReader}
 use Rattle.calls.specs.Call as R
-use Rattle.reader.specs.Parts.{freshReader}
 use Rattle.reader_export.specs.Export.{Answer}
 use Rattle.reader_export.specs.Lists.{Ask, Calls, callOf, seenIn, seenOf, runOf}
 use Rattle.reader_export.proofs.ListLaws.{calls-from-fresh}

@@ -10,10 +10,9 @@ use Rattle.ring.specs.declared.KeyRecord.{KeyRecord}
 use Rattle.sections.specs.Calls.{Request, feed, answer, end}
 use Rattle.stream.specs.Limits.{ringLimit}
 use Rattle.lent.specs.Table.{lentFeedOf}
-use Rattle.state.specs.Desk.{Desk, desk}
+use Rattle.state.specs.Desk.{Desk, desk, freshReader}
 use Rattle.calls.specs.Call as R
 use Rattle.calls.specs.Answer.{answerOf, endOf}
-use Rattle.reader.specs.Parts.{freshReader}
 use Rattle.agreement.specs.Loans.{haveRoom}
 use Rattle.agreement.specs.Shown.{Shown}
 use Rattle.agreement.specs.Run.{seen}

@@ -6,9 +6,8 @@ use Rattle.ring.specs.declared.KeyRing.{KeyRing}
 use Rattle.sections.specs.Reading.{Log}
 use Rattle.stream.specs.Events.{Question, Release, LastWord}
 use Rattle.stream.specs.Stream.{plainReading}
-use Rattle.state.specs.Desk.{Desk, desk}
+use Rattle.state.specs.Desk.{Desk, desk, freshReader}
 use Rattle.state.specs.declared.word.Word.{Word}
-use Rattle.reader.specs.Parts.{freshReader}
 use Rattle.agreement.specs.Run.{Call, runCall}
 use Rattle.claims.specs.Runs.{taken, answers, ended}
 

@@ -45,5 +45,6 @@ fn block_part(r: Reader, block: &[u8]) -> &[u8]
 fn field_part<'a>(r: Reader, head: &'a [u8], name: &[u8]) -> &'a [u8]
     ensures { λ part. ⌜ ((b q : List ℕ) → now part ≡ valueSeen (desk r (now (head .entry)) b q) (now (name .entry))) ⌝ }
 {
-    reader::field_part(head, r.accepted, name)
+    let fixed = r.fixed;
+    reader::field_part(head, fixed.accepted, name)
 }
