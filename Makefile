@@ -1,9 +1,10 @@
-# make run    the main job on its built-in example
-# make test   proves every crate from nothing and runs all tests: the gate
-# make long   the body's limit itself, 4,294,967,296 bytes and one more, through a pipe; about a minute, and not in the gate
-# make fuzz   a million random lists of calls beside the second reader, then the C interface's fuzz target for two minutes
-# make bench  speed: SHA-512 and the whole reader beside ordinary Rust ones, and the judgement of a large head
-# make fetch  the programs oui-fetch, oui-sign and oui-relay, in rust/target/release
+# make run      the main job on its built-in example
+# make test     proves every crate from nothing and runs all tests: the gate. RT_JOBS=3 has rt prove three crates or edits at a time
+# make long     the body's limit itself, 4,294,967,296 bytes and one more, through a pipe; about a minute, and not in the gate
+# make fuzz     a million random lists of calls beside the second reader, then the C interface's fuzz target for two minutes
+# make bench    speed: SHA-512 and the whole reader beside ordinary Rust ones, and the judgement of a large head
+# make fetch    the programs oui-fetch, oui-sign and oui-relay, in rust/target/release
+# What is under way is told on standard error (scripts/progress).
 .PHONY: run test long fuzz bench program fetch
 
 run: program
@@ -29,10 +30,10 @@ fuzz:
 fetch:
 	@scripts/setup
 	@scripts/library
-	@cargo build --release --offline --quiet --manifest-path rust/Cargo.toml -p oui-fetch -p oui-sign -p oui-relay
+	@scripts/cargo-build -p oui-fetch -p oui-sign -p oui-relay
+	@echo 'oui-fetch, oui-sign and oui-relay are in rust/target/release'
 
-# The program alone, proved and linked; what the prover says is shown where it fails
+# The program alone, proved and linked
 program:
 	@scripts/setup
-	@rt check ouiread >target.log 2>&1 || { cat target.log; rm -f target.log; exit 1; }
-	@rm -f target.log
+	@scripts/progress ouiread rt check ouiread

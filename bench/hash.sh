@@ -2,13 +2,16 @@
 # Times the proved SHA-512 beside an ordinary one in Rust, and then OpenSSL's, on blocks of the same size. Run it from the top of the
 # repository; it needs rt, rustc and openssl.
 set -e
-rt staticlib hash_export
+scripts/progress 'SHA-512' rt staticlib hash_export
 mkdir -p target/bench
-rustc --edition 2021 -O -L target/staticlib -l static=hash_export -o target/bench/hash bench/hash.rs
-target/bench/hash | tee target/bench/hash.out
+scripts/progress 'building the benchmark' \
+    rustc --edition 2021 -O -L target/staticlib -l static=hash_export -o target/bench/hash bench/hash.rs
+scripts/progress 'timing SHA-512' sh -c 'target/bench/hash >target/bench/hash.out'
+cat target/bench/hash.out
 
 # OpenSSL says how many thousands of bytes it hashes in a second; ours took so many seconds for 64 MiB.
-openssl speed -elapsed -seconds 3 -bytes 65536 -evp sha512 2>/dev/null >target/bench/openssl.out
+scripts/progress "timing OpenSSL's" \
+    sh -c 'openssl speed -elapsed -seconds 3 -bytes 65536 -evp sha512 >target/bench/openssl.out'
 awk '
     FNR == NR && $1 == "proved" { ours = 64 * 1024 * 1024 / $2 }
     FNR != NR && $1 == "sha512" { theirs = $2 * 1000 }

@@ -3,5 +3,7 @@
 # it needs rt and cargo.
 set -e
 scripts/library
-cargo build --release --offline --quiet --manifest-path rust/Cargo.toml -p bench-reader
-rust/target/release/bench-reader
+scripts/cargo-build -p bench-reader
+mkdir -p target/bench
+scripts/progress 'timing the reader' sh -c 'rust/target/release/bench-reader >target/bench/reader.out'
+cat target/bench/reader.out

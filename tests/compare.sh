@@ -3,6 +3,6 @@
 # unreadable files. Events and bodies must be equal, and a file that is no good named in one line. A Rattle program has no exit status.
 set -uo pipefail
 cd "$(dirname "$0")/.."
-cargo build --release --offline --quiet --manifest-path rust/Cargo.toml || exit 1
+scripts/cargo-build || exit 1
 rust/target/release/compare target/bin/ouiread rust/target/release/ouiread-second --no-status-in-a \
     --seed 1 --count 3100 --groups example,rules,bounds,inputs,damage,mixed

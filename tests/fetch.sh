@@ -6,7 +6,7 @@ shopt -s lastpipe # so that a fetch at the end of a pipe can set its status
 cd "$(dirname "$0")/.."
 . scripts/counting
 scripts/library || exit 1
-cargo build --release --offline --quiet --manifest-path rust/Cargo.toml -p oui-sign -p oui-relay -p oui-fetch || exit 1
+scripts/cargo-build -p oui-sign -p oui-relay -p oui-fetch || exit 1
 
 top=$PWD
 PATH=$PWD/rust/target/release:$PATH

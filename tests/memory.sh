@@ -6,7 +6,7 @@
 set -uo pipefail
 cd "$(dirname "$0")/.."
 . scripts/counting
-cargo build --release --offline --quiet --manifest-path rust/Cargo.toml || exit 1
+scripts/cargo-build || exit 1
 
 streams=rust/target/release/streams
 work=$(mktemp -d)
