@@ -4,8 +4,9 @@
 # make fuzz     a million random lists of calls beside the second reader, then the C interface's fuzz target for two minutes
 # make bench    speed: SHA-512 and the whole reader beside ordinary Rust ones, and the judgement of a large head
 # make fetch    the programs oui-fetch, oui-sign and oui-relay, in rust/target/release
+# make picture  docs/crates.svg anew from crates.txt
 # What is under way is told on standard error (scripts/progress).
-.PHONY: run test long fuzz bench program fetch
+.PHONY: run test long fuzz bench program fetch picture
 
 run: program
 	@cd crates/ouiread/data && ../../../target/bin/ouiread stream ring answers
@@ -32,6 +33,9 @@ fetch:
 	@scripts/library
 	@scripts/cargo-build -p oui-fetch -p oui-sign -p oui-relay
 	@echo 'oui-fetch, oui-sign and oui-relay are in rust/target/release'
+
+picture:
+	@scripts/crates-picture >docs/crates.svg
 
 # The program alone, proved and linked
 program:
