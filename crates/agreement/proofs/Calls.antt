@@ -29,7 +29,7 @@ use Rattle.state.specs.declared.phase.Phase.{Phase}
 use Rattle.state.proofs.BufferLaws.{length-cleared}
 use Rattle.calls.specs.Call.{given, isReading, unchanged, recalled}
 use Rattle.reader.specs.Feed.{fed, takenFrom}
-use Rattle.calls.specs.Answer.{accepting, headAnswer, following, releasing, blockAnswer, answerAt}
+use Rattle.calls.specs.Answer.{accepting, answerAt, blockAnswer, followed, following, headAnswer, releasing}
 use Rattle.reader.specs.Parts.{blockPart}
 use Rattle.agreement.specs.Shown as Shown
 use Rattle.agreement.specs.Plain.{blockLeft, Handed, handedAfter}
@@ -132,7 +132,7 @@ module _ (ring : Ring) (h : Handed) where
   -- ---- an answer to a block's question
 
   module _ (d : Desk) (s : Show) (p : Past) (size next : ℕ) (b : List ℕ) (lent : Lent d (h .signed)) (a : BlockAsked ring d s p size next b) (none : h .released ≡ []) where
-    counts : Counts (releasing (d .reader) size next) (after p b)
+    counts : Counts (followed (d .reader .chain)) (after p b)
     unfolding releasing following
     counts =
         let i : d .reader .chain .number .0 ≡ p .blocks = a .blocks in
@@ -148,7 +148,7 @@ module _ (ring : Ring) (h : Handed) where
     released-holds =
         let e : Line.bodyWith (d .reader) size ≡ bodyWith s p b = body-now (d .reader) s p b size (a .bytes .count) (a .keeps) (a .blocks) (a .sound) in
         record {
-          stands = announced-by _ s (after p b) _ (bodyWith s p b) next e (record { id = a .keeps .id; size = a .keeps .size; key = a .keeps .key }) counts (a .onward);
+          stands = announced-by _ s (after p b) _ (bodyWith s p b) next e (a .keeps) counts (a .onward);
           lent = still lent _ refl refl refl refl refl;
           block = a .bytes .bytes;
         }

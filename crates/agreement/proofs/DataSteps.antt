@@ -24,13 +24,13 @@ use Rattle.state.specs.declared.phase.Phase.{Phase}
 use Rattle.state.specs.declared.phase.Phase.the-variants as P
 use Rattle.agreement.proofs.Stands.{Gathered, Keeps, Counts, Lent, Under, Follows}
 use Rattle.agreement.proofs.Stands as F
-use Rattle.agreement.proofs.Gathering.{none-gathered, gather, short, still, keeps-on, counts-on, under-on}
+use Rattle.agreement.proofs.Gathering.{none-gathered, gather, short, still, under-on}
 use Rattle.agreement.proofs.Refusals.{refuses}
 
 module _ (ring : Ring) (fields : List Field) (d : Desk) (x : ℕ) (lent : Lent d fields) (none : d .reader .released ≡ 0) (s : Show) (p : Past) where
   -- ---- data
 
-  module _ (have size : ℕ) (g : List ℕ) (k : Keeps (d .reader) s) (c : Counts (d .reader) p) (sound : SoundBlock s p size) where
+  module _ (have size : ℕ) (g : List ℕ) (k : Keeps (d .reader .fixed) s) (c : Counts (d .reader .chain) p) (sound : SoundBlock s p size) where
     abbrev filled : Phase → Desk
     filled q = desk (inPhase (d .reader) q) (d .head) (set (d .block) have x) (d .question)
 
@@ -43,7 +43,7 @@ module _ (ring : Ring) (fields : List Field) (d : Desk) (x : ℕ) (lent : Lent d
         (record {
           stands =
               F.dataEnd {b = g ++ x ∷ []}
-              (record { keeps = keeps-on _ _ _ k; counts = counts-on _ _ c; sound = rw (n, z) sound; bytes = rw z at a })
+              (record { keeps = k; counts = c; sound = rw (n, z) sound; bytes = rw z at a })
               (none-gathered (d .reader .line)) refl;
           lent = still lent _ refl refl (length-set (d .block) have x) refl refl;
           taken = none;
@@ -51,7 +51,7 @@ module _ (ring : Ring) (fields : List Field) (d : Desk) (x : ℕ) (lent : Lent d
     data-by false e m n a =
         F.on
         (record {
-          stands = F.blockData (keeps-on _ _ _ k) (counts-on _ _ c) sound a (rw n e);
+          stands = F.blockData k c sound a (rw n e);
           lent = still lent _ refl refl (length-set (d .block) have x) refl refl;
           taken = none;
         })

@@ -14,8 +14,6 @@ use Rattle.stream.specs.Stream.{Show, Past, Context, isWhole}
 use Rattle.stream.proofs.Sound.{limitOf, whole-at-limit}
 use Rattle.state.specs.Desk.{Desk, renewed}
 use Rattle.state.specs.declared.phase.Phase.{Phase}
-use Rattle.state.specs.declared.reader.Chain.{Chain}
-use Rattle.state.specs.declared.reader.Reader.{Reader}
 use Rattle.agreement.proofs.Stands.{Gathered, Keeps, Counts, Lent, Under}
 
 pub none-gathered : (buffer : List ℕ) → Gathered buffer 0 []
@@ -54,20 +52,13 @@ still l d′ h a b q n =
       value = λ name. rw (h, a) (l .value name);
     }
 
--- a reader with another phase and line keeps what it kept
-pub keeps-on : {r : Reader} {s : Show} (p : Phase) (line : List ℕ) (chain : Chain) → Keeps r s → Keeps (renewed r p line chain) s
-keeps-on p line chain k = record { id = k .id; size = k .size; key = k .key }
-
-pub counts-on : {r : Reader} {past : Past} (p : Phase) (line : List ℕ) → Counts r past → Counts (renewed r p line (r .chain)) past
-counts-on p line c = record { blocks = c .blocks; hash = c .hash }
-
 -- the block under way, of which no byte changes
 pub under-on : {d : Desk} {s : Show} {past : Past} {size : ℕ} {b : List ℕ} (p : Phase) (line : List ℕ) (d′ : Desk)
     → d′ .reader ≡ renewed (d .reader) p line (d .reader .chain) → d′ .block ≡ d .block → Under d s past size b → Under d′ s past size b
 under-on {d} p line d′ e f u =
     record {
-      keeps = rw e (keeps-on p line (d .reader .chain) (u .keeps));
-      counts = rw e (counts-on p line (u .counts));
+      keeps = rw e (u .keeps);
+      counts = rw e (u .counts);
       sound = u .sound;
       bytes = rw f (u .bytes);
     }

@@ -29,7 +29,7 @@ use Rattle.state.specs.Desk.{Desk, desk, inPhase, on}
 use Rattle.state.specs.declared.phase.Phase.the-variants as P
 use Rattle.state.specs.declared.reader.Reader.{Reader}
 use Rattle.state.specs.declared.word.Word.the-variants as W
-use Rattle.head_steps.specs.HeadByte.{asking, headAnswered, judgedAt, headGathered, pushHead}
+use Rattle.head_steps.specs.HeadByte.{asking, fixing, headAnswered, judgedAt, headGathered, pushHead}
 use Rattle.agreement.specs.Run.{wordSeen}
 use Rattle.agreement.proofs.Stands.{Gathered, Keeps, Lent, Follows}
 use Rattle.agreement.proofs.Stands as F
@@ -68,10 +68,11 @@ module _ (ring : Ring) (fields : List Field) (d : Desk) (x : ℕ) (lent : Lent d
 
   abbrev asks : Reader
   asks =
-      asking (d′ .reader) (have + 1) (decimalValue (statusDigits (headOf l))) (blockSize (headOf l)) (numberOf (trustedBy ring (headOf l)))
-      (padded idLimit (injectionId (headOf l))) (length (injectionId (headOf l)))
+      asking (d′ .reader) (have + 1)
+      (fixing (d′ .reader) (decimalValue (statusDigits (headOf l))) (blockSize (headOf l)) (numberOf (trustedBy ring (headOf l)))
+      (padded idLimit (injectionId (headOf l))) (length (injectionId (headOf l))))
 
-  kept : Keeps asks (showOf ring (headOf l))
+  kept : Keeps (asks .fixed) (showOf ring (headOf l))
   unfolding showOf padded
   kept = record { id = take-append-seam (injectionId (headOf l)) _; size = refl; key = refl }
 

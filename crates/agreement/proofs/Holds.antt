@@ -17,13 +17,12 @@ use Rattle.stream.specs.Stream.{Show, Past, Context}
 use Rattle.handing.specs.Handing.{handedValue}
 use Rattle.state.specs.Desk.{Desk}
 use Rattle.state.specs.declared.phase.Phase.{Phase}
-use Rattle.state.specs.declared.reader.Reader.{Reader}
 use Rattle.calls.specs.Call as R
 use Rattle.calls.specs.Call.{areRoomy, fits, isReading, unchanged, takingBack, recalled}
 use Rattle.reader.specs.Parts.{blockPart}
 use Rattle.agreement.specs.Plain.{toldWord, Handed, handedAfter, shows}
 use Rattle.agreement.specs.Run.{isOfCall, wordSeen, seen}
-use Rattle.agreement.proofs.Stands.{Keeps, Counts, Lent, Standing, At, Stands, Under}
+use Rattle.agreement.proofs.Stands.{Lent, Standing, At, Stands, Under}
 use Rattle.agreement.proofs.Stands as F
 
 -- the reader and its buffers stand for the state, and hand out what is to be handed out
@@ -65,15 +64,9 @@ unchanged-follows n d s m k = follows (unchanged n d) (misused n) 0 s k (rw m) r
 
 -- ---- phases
 
--- with no block handed out the reader keeps what it kept
-keeps-back : {r : Reader} {s : Show} → Keeps r s → Keeps (takingBack r) s
-keeps-back k = record { id = k .id; size = k .size; key = k .key }
-
-counts-back : {r : Reader} {p : Past} → Counts r p → Counts (takingBack r) p
-counts-back c = record { blocks = c .blocks; hash = c .hash }
-
+-- with no block handed out the block under way stays
 under-back : {d : Desk} {s : Show} {p : Past} {size : ℕ} {b : List ℕ} → Under d s p size b → Under (recalled d) s p size b
-under-back u = record { keeps = keeps-back (u .keeps); counts = counts-back (u .counts); sound = u .sound; bytes = u .bytes }
+under-back u = record { keeps = u .keeps; counts = u .counts; sound = u .sound; bytes = u .bytes }
 
 module _ {ring : Ring} {d : Desk} where
   pub reading-phase : {p : Phase} {c : Context} {g : List ℕ} → At ring d p (running c g) → isReading p ≡ true
@@ -95,8 +88,8 @@ module _ {ring : Ring} {d : Desk} where
   -- and stands where it stood
   pub stands-back : {p : Phase} {c : Context} {g : List ℕ} → At ring d p (running c g) → At ring (recalled d) p (running c g)
   stands-back (F.head early a e) = F.head early a e
-  stands-back (F.firstLine k sound none a e) = F.firstLine (keeps-back k) sound none a e
-  stands-back (F.blockData k c sound a e) = F.blockData (keeps-back k) (counts-back c) sound a e
+  stands-back (F.firstLine k sound none a e) = F.firstLine k sound none a e
+  stands-back (F.blockData k c sound a e) = F.blockData k c sound a e
   stands-back (F.dataEnd u a e) = F.dataEnd (under-back u) a e
   stands-back (F.nextLine u a e) = F.nextLine (under-back u) a e
   stands-back (F.trailer most a e) = F.trailer most a e

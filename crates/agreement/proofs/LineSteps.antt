@@ -27,31 +27,31 @@ use Rattle.body_steps.specs.Trailer.{trailerGathered, pushTrailer}
 use Rattle.line_steps.specs.FirstLine as Line
 use Rattle.state.specs.declared.phase.Phase.{Phase}
 use Rattle.state.specs.declared.phase.Phase.the-variants as P
-use Rattle.state.specs.declared.reader.Reader.{Reader}
+use Rattle.state.specs.declared.reader.Chain.{Chain}
 use Rattle.state.specs.declared.word.Word.the-variants as W
 use Rattle.agreement.specs.Run.{wordSeen}
 use Rattle.agreement.proofs.Stands.{Gathered, Keeps, Counts, Lent, At, Follows}
 use Rattle.agreement.proofs.Stands as F
-use Rattle.agreement.proofs.Gathering.{none-gathered, gather, short, at-most, still, keeps-on}
+use Rattle.agreement.proofs.Gathering.{none-gathered, gather, short, at-most, still}
 use Rattle.agreement.proofs.Refusals.{refuses, line-number}
 
 -- the phase that a line of so many bytes announces stands for the context that it announces
-pub announced-at : {ring : Ring} (d : Desk) (s : Show) (p : Past) (total n : ℕ) → Keeps (d .reader) s → Counts (d .reader) p
+pub announced-at : {ring : Ring} (d : Desk) (s : Show) (p : Past) (total n : ℕ) → Keeps (d .reader .fixed) s → Counts (d .reader .chain) p
     → Sound (announced s p total n) → At ring d (Line.announced n total) (running (announced s p total n) [])
 announced-at d s p total zero k c h = F.trailer h (none-gathered (d .block)) (not-whole-empty (C.trailer total) h)
 announced-at d s p total (suc n) k c h = rw (ne-eqb (suc n) 0 (λ e. omega arith)) (F.blockData k c h (none-gathered (d .block)) (not-whole-empty (C.blockData s p (suc n)) h))
 
 -- the same where the reader has counted the total
-pub announced-by : {ring : Ring} (d : Desk) (s : Show) (p : Past) (t total n : ℕ) → t ≡ total → Keeps (d .reader) s → Counts (d .reader) p
+pub announced-by : {ring : Ring} (d : Desk) (s : Show) (p : Past) (t total n : ℕ) → t ≡ total → Keeps (d .reader .fixed) s → Counts (d .reader .chain) p
     → Sound (announced s p total n) → At ring d (Line.announced n t) (running (announced s p total n) [])
 announced-by d s p t total n e k c h = rw e (announced-at d s p total n k c h)
 
 -- before the first block
-pub none-before : (r : Reader) → r .chain .number .0 ≡ 0 → Counts r nothing
-none-before r e = record { blocks = e; hash = rw e refl }
+pub none-before : (c : Chain) → c .number .0 ≡ 0 → Counts c nothing
+none-before c e = record { blocks = e; hash = rw e refl }
 
 module _ (ring : Ring) (fields : List Field) (d : Desk) (x : ℕ) (lent : Lent d fields) (none : d .reader .released ≡ 0) where
-  module _ (s : Show) (k : Keeps (d .reader) s) (sound : SoundShow s) (zero-blocks : d .reader .chain .number .0 ≡ 0) (have : ℕ) (g : List ℕ) where
+  module _ (s : Show) (k : Keeps (d .reader .fixed) s) (sound : SoundShow s) (zero-blocks : d .reader .chain .number .0 ≡ 0) (have : ℕ) (g : List ℕ) where
     abbrev l : List ℕ
     l = g ++ x ∷ []
 
@@ -68,7 +68,7 @@ module _ (ring : Ring) (fields : List Field) (d : Desk) (x : ℕ) (lent : Lent d
     answered zero e h =
         F.on
         (record {
-          stands = announced-at _ s nothing 0 (chunkSize l) (keeps-on _ _ _ k) (none-before _ zero-blocks) h;
+          stands = announced-at _ s nothing 0 (chunkSize l) k (none-before _ zero-blocks) h;
           lent = lent′ _;
           taken = none;
         })
@@ -80,7 +80,7 @@ module _ (ring : Ring) (fields : List Field) (d : Desk) (x : ℕ) (lent : Lent d
     unfolding rules judge judgeFirstLine lineJudged
     by N n true e m a = rw n (answered (lineFault (s .size) false true 0 l) refl (judge-sound ring (C.firstLine s) l sound e m))
     by N n false e m a =
-        F.on (record { stands = F.firstLine (keeps-on _ _ _ k) sound zero-blocks a e; lent = lent′ _; taken = none })
+        F.on (record { stands = F.firstLine k sound zero-blocks a e; lent = lent′ _; taken = none })
 
     pub first-step : Gathered (d .reader .line) have g → isWhole (C.firstLine s) g ≡ false
         → Follows ring fields (pushFirstLine d have x) (step (rules ring) (C.firstLine s) g x)

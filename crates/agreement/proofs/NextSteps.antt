@@ -35,17 +35,17 @@ use Rattle.state.specs.declared.word.Word.the-variants as W
 use Rattle.agreement.specs.Run.{wordSeen}
 use Rattle.agreement.proofs.Stands.{Gathered, Keeps, Lent, Under, Follows}
 use Rattle.agreement.proofs.Stands as F
-use Rattle.agreement.proofs.Gathering.{gather, short, at-most, still, keeps-on, under-on}
+use Rattle.agreement.proofs.Gathering.{gather, short, at-most, still, under-on}
 use Rattle.agreement.proofs.Refusals.{refuses, line-number}
 
 -- ---- places
 
 -- the places of blocks within the body's limit are far below the largest number
-pub offset-now : (r : Reader) (s : Show) (p : Past) (n : ℕ) → Keeps r s → r .chain .number .0 ≡ p .blocks → SoundBlock s p n → offsetNow r .0 ≡ blockOffset s p
+pub offset-now : (r : Reader) (s : Show) (p : Past) (n : ℕ) → Keeps (r .fixed) s → r .chain .number .0 ≡ p .blocks → SoundBlock s p n → offsetNow r .0 ≡ blockOffset s p
 unfolding offsetAt
 offset-now r s p n k e h = rw (k .size, e) (omega (arith, h .body))
 
-pub body-now : (r : Reader) (s : Show) (p : Past) (b : List ℕ) (n : ℕ) → length b ≡ n → Keeps r s → r .chain .number .0 ≡ p .blocks → SoundBlock s p (length b)
+pub body-now : (r : Reader) (s : Show) (p : Past) (b : List ℕ) (n : ℕ) → length b ≡ n → Keeps (r .fixed) s → r .chain .number .0 ≡ p .blocks → SoundBlock s p (length b)
     → Line.bodyWith r n ≡ bodyWith s p b
 unfolding Line.bodyWith
 body-now r s p b n c k e h = rw (← c, offset-now r s p (length b) k e h) (omega (arith, h .body))
@@ -87,7 +87,7 @@ module _ (ring : Ring) (fields : List Field) (d : Desk) (x : ℕ) (lent : Lent d
   hash-is = rw (u .counts .hash, u .bytes .bytes)
 
   offset-is : offsetNow (d′ .reader) .0 ≡ blockOffset s p
-  offset-is = offset-now (d′ .reader) s p (length b) (keeps-on _ _ _ (u .keeps)) (u .counts .blocks) (u .sound)
+  offset-is = offset-now (d′ .reader) s p (length b) (u .keeps) (u .counts .blocks) (u .sound)
 
   message-is : messageNow d′ size ≡ written (length message) (message ++ drop (length message) (d .question))
   unfolding messageNow
@@ -115,7 +115,7 @@ module _ (ring : Ring) (fields : List Field) (d : Desk) (x : ℕ) (lent : Lent d
         stands =
             F.blockAsked
             (record {
-              keeps = keeps-on _ _ _ (u .keeps);
+              keeps = u .keeps;
               blocks = u .counts .blocks;
               hash = hash-is;
               sound = u .sound;
@@ -140,7 +140,7 @@ module _ (ring : Ring) (fields : List Field) (d : Desk) (x : ℕ) (lent : Lent d
   unfolding nextJudged
   judged-is =
       let e : Line.bodyWith (d′ .reader) size ≡ bodyWith s p b =
-      body-now (d′ .reader) s p b size (u .bytes .count) (keeps-on _ _ _ (u .keeps)) (u .counts .blocks) (u .sound) in
+      body-now (d′ .reader) s p b size (u .bytes .count) (u .keeps) (u .counts .blocks) (u .sound) in
       let n : size ≡ length b = sym (u .bytes .count) in
       λ i. lineJudged (u .keeps .size i) true (eqb (n i) (u .keeps .size i)) (e i) l
 

@@ -26,7 +26,8 @@ use Rattle.state.specs.Desk.{Desk, Next}
 use Rattle.state.specs.Desk as D
 use Rattle.state.specs.declared.phase.Phase.{Phase}
 use Rattle.state.specs.declared.phase.Phase.the-variants as P
-use Rattle.state.specs.declared.reader.Reader.{Reader}
+use Rattle.state.specs.declared.reader.Chain.{Chain}
+use Rattle.state.specs.declared.reader.Fixed.{Fixed}
 use Rattle.state.specs.declared.word.Word as State
 use Rattle.agreement.specs.Plain.{toldEvent}
 use Rattle.agreement.specs.Run.{wordSeen}
@@ -39,15 +40,15 @@ pub record Gathered (buffer : List ℕ) (n : ℕ) (g : List ℕ) : Type 0 where
   pub count : length g ≡ n
 
 -- what the reader keeps of the head
-pub record Keeps (r : Reader) (s : Show) : Type 0 where
-  pub id : take (r .fixed .«id_length») (r .fixed .id) ≡ s .id
-  pub size : r .fixed .«block_size» ≡ s .size
-  pub key : r .fixed .key ≡ s .keyNumber
+pub record Keeps (f : Fixed) (s : Show) : Type 0 where
+  pub id : take (f .«id_length») (f .id) ≡ s .id
+  pub size : f .«block_size» ≡ s .size
+  pub key : f .key ≡ s .keyNumber
 
 -- and of the blocks before
-pub record Counts (r : Reader) (p : Past) : Type 0 where
-  pub blocks : r .chain .number .0 ≡ p .blocks
-  pub hash : pick (eqb (r .chain .number .0) 0) [] (r .chain .hash) ≡ p .hash
+pub record Counts (c : Chain) (p : Past) : Type 0 where
+  pub blocks : c .number .0 ≡ p .blocks
+  pub hash : pick (eqb (c .number .0) 0) [] (c .hash) ≡ p .hash
 
 -- the buffers and the line have their room, and the fields are those whose values are handed out
 pub record Lent (d : Desk) (fields : List Field) : Type 0 where
@@ -64,8 +65,8 @@ Standing = State Context Release LastWord
 
 -- the block b is under way, after the blocks of p
 pub record Under (d : Desk) (s : Show) (p : Past) (size : ℕ) (b : List ℕ) : Type 0 where
-  pub keeps : Keeps (d .reader) s
-  pub counts : Counts (d .reader) p
+  pub keeps : Keeps (d .reader .fixed) s
+  pub counts : Counts (d .reader .chain) p
   pub sound : SoundBlock s p (length b)
   pub bytes : Gathered (d .block) size b
 
@@ -75,13 +76,13 @@ module _ (ring : Ring) (d : Desk) where
     pub bytes : Gathered (d .head) n l
     pub good : headFault ring l ≡ 0
     pub sound : SoundShow (showOf ring (headOf l))
-    pub keeps : Keeps (d .reader) (showOf ring (headOf l))
+    pub keeps : Keeps (d .reader .fixed) (showOf ring (headOf l))
     pub status : d .reader .fixed .status ≡ decimalValue (statusDigits (headOf l))
     pub none : d .reader .chain .number .0 ≡ 0
     pub taken : d .reader .released ≡ 0
 
   pub record BlockAsked (s : Show) (p : Past) (size next : ℕ) (b : List ℕ) : Type 0 where
-    pub keeps : Keeps (d .reader) s
+    pub keeps : Keeps (d .reader .fixed) s
     pub blocks : d .reader .chain .number .0 ≡ p .blocks
     pub hash : d .reader .chain .hash ≡ chained (p .hash) b
     pub sound : SoundBlock s p (length b)
@@ -100,9 +101,9 @@ module _ (ring : Ring) (d : Desk) where
   pub data At : Phase → Standing → Type 0 where
     head : {n : ℕ} {g : List ℕ} → d .reader .fixed .accepted ≡ 0 → Gathered (d .head) n g → isWhole C.head g ≡ false → At (P.Head n) (running C.head g)
     headAsked : {n : ℕ} {l : List ℕ} → HeadAsked n l → At (P.HeadAsked n) (asked (headGrant l))
-    firstLine : {n : ℕ} {g : List ℕ} {s : Show} → Keeps (d .reader) s → SoundShow s → d .reader .chain .number .0 ≡ 0
+    firstLine : {n : ℕ} {g : List ℕ} {s : Show} → Keeps (d .reader .fixed) s → SoundShow s → d .reader .chain .number .0 ≡ 0
         → Gathered (d .reader .line) n g → isWhole (C.firstLine s) g ≡ false → At (P.FirstLine n) (running (C.firstLine s) g)
-    blockData : {have size : ℕ} {g : List ℕ} {s : Show} {p : Past} → Keeps (d .reader) s → Counts (d .reader) p → SoundBlock s p size
+    blockData : {have size : ℕ} {g : List ℕ} {s : Show} {p : Past} → Keeps (d .reader .fixed) s → Counts (d .reader .chain) p → SoundBlock s p size
         → Gathered (d .block) have g → isWhole (C.blockData s p size) g ≡ false → At (P.Data have size) (running (C.blockData s p size) g)
     dataEnd : {have size : ℕ} {b g : List ℕ} {s : Show} {p : Past} → Under d s p size b
         → Gathered (d .reader .line) have g → isWhole (C.dataEnd s p b) g ≡ false → At (P.DataEnd have size) (running (C.dataEnd s p b) g)

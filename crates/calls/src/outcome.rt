@@ -1,5 +1,4 @@
 // What a call gives, and what stands before every call.
-use head::HEAD_LIMIT;
 use state::Phase;
 use state::Reader;
 use state::Stepped;
@@ -8,7 +7,9 @@ ghost use mathlib.Core.Path.{_≡_};
 ghost use Rattle.state.specs.Desk.{noSignature};
 ghost use Rattle.calls.specs.Call.{areRoomy, isReading, takingBack};
 
-// The least room for a block. A head asks as much as its limit, and so does a question.
+// The least room for a head, and for a question; and for a block.
+const HEAD_ROOM: usize = 8_192;
+
 pub const BLOCK_ROOM: usize = 65_536;
 
 // The word, how many bytes of the piece were taken, the signature that a question is about (else zeros), and the reader after the
@@ -58,7 +59,7 @@ pub fn ended(s: Stepped, taken: usize) -> Outcome
 pub fn are_roomy(head: usize, block: usize, question: usize) -> bool
     ensures { λ r. ⌜ r ≡ areRoomy head block question ⌝ }
 {
-    (HEAD_LIMIT <= head) & ((BLOCK_ROOM <= block) & (HEAD_LIMIT <= question))
+    (HEAD_ROOM <= head) & ((BLOCK_ROOM <= block) & (HEAD_ROOM <= question))
 }
 
 // Whether the reader reads on: no question is open, and no last word has been said.

@@ -3,7 +3,6 @@ use crate::table;
 use crate::table::Fields;
 use field_lines::Entry;
 use field_lines::FieldLine;
-ghost use mathlib.Core.Path.{_≡_};
 ghost use Prim.Native.Nat.{_≤_};
 ghost use lib.ListN.{drop, length};
 ghost use Rattle.stream.specs.Lines.{textLines};

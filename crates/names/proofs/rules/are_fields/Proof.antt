@@ -13,8 +13,8 @@ use Rattle.stream.specs.Fields.{hasField}
 use Rattle.stream.specs.Lines.{Field}
 use Rattle.stream.specs.Signatures.{areFields}
 use Rattle.names.proofs.NameLaws.{names-count, field-miss, field-next, field-out}
-use Rattle.names.proofs.list.are_fields.Statement.{statement}
-use Rattle.names.proofs.list.are_fields.Tie as tie
+use Rattle.names.proofs.rules.are_fields.Statement.{statement}
+use Rattle.names.proofs.rules.are_fields.Tie as tie
 
 abbrev Inv-loop : tie.InvT-loop
 Inv-loop text f list n end i₀ i = areFields (fieldsIn text f) (drop 2 (namesIn list n)) ≡ areFields (fieldsIn text f) (drop i (namesIn list n))

@@ -4,8 +4,8 @@ use native.Mathlib.Omega.{arith}
 use denote.Ref.{now}
 use Rattle.names.proofs.NameLaws.{names-count, list-is}
 use borrow.Author.Needs.{needs}
-use Rattle.names.proofs.list.is_list.Statement.{statement}
-use Rattle.names.proofs.list.is_list.Tie as tie
+use Rattle.names.proofs.rules.is_list.Statement.{statement}
+use Rattle.names.proofs.rules.is_list.Tie as tie
 
 is-doubled-requires : tie.Need-is-doubled-requires
 is-doubled-requires c κs = search needs
