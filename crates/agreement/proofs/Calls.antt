@@ -30,7 +30,7 @@ use Rattle.state.proofs.BufferLaws.{length-cleared}
 use Rattle.calls.specs.Call.{given, isReading, unchanged, recalled}
 use Rattle.reader.specs.Feed.{fed, takenFrom}
 use Rattle.calls.specs.Answer.{accepting, answerAt, blockAnswer, followed, following, headAnswer, releasing}
-use Rattle.reader.specs.Parts.{blockPart}
+use Rattle.handing.specs.Released.{blockPart}
 use Rattle.agreement.specs.Shown as Shown
 use Rattle.agreement.specs.Plain.{blockLeft, Handed, handedAfter}
 use Rattle.agreement.specs.Run.{wordSeen}

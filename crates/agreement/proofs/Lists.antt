@@ -30,7 +30,7 @@ use Rattle.calls.specs.Call as R
 use Rattle.calls.specs.Call.{areRoomy, isReading, unchanged, recalled}
 use Rattle.reader.specs.Feed.{takenFrom, feedOf}
 use Rattle.calls.specs.Answer.{answerOf, endOf}
-use Rattle.reader.specs.Parts.{blockPart}
+use Rattle.handing.specs.Released.{blockPart}
 use Rattle.agreement.specs.Plain.{Handed, nothing, handedAfter, shows, showing, plainlyShown}
 use Rattle.agreement.specs.Run.{Call, same, other, called, aside, runCall, wordSeen, seen, runFrom, run, plainCall, plainCalls}
 use Rattle.agreement.proofs.Stands.{Standing}

@@ -19,7 +19,7 @@ use Rattle.state.specs.declared.word.Word as State
 use Rattle.calls.specs.Call as R
 use Rattle.reader.specs.Feed.{feedOf}
 use Rattle.calls.specs.Answer.{answerOf, endOf}
-use Rattle.reader.specs.Parts.{blockPart}
+use Rattle.handing.specs.Released.{blockPart}
 use Rattle.agreement.specs.Loans.{loanFits}
 use Rattle.agreement.specs.Shown.{Told, headAccepted, block, Shown}
 

@@ -5,7 +5,6 @@ mod outcome; // what a call gives, and what stands before every call
 
 pub use answering::answer;
 pub use ending::end;
-pub use outcome::BLOCK_ROOM;
 pub use outcome::Outcome;
 pub use outcome::are_roomy;
 pub use outcome::ended;

@@ -17,7 +17,7 @@ use Rattle.handing.proofs.ValueLaws.{room-small}
 use Rattle.state.specs.Desk.{Desk}
 use Rattle.calls.specs.Call.{isReading, unchanged}
 use Rattle.reader.specs.Feed.{feedOf}
-use Rattle.reader.specs.Parts.{blockPart}
+use Rattle.handing.specs.Released.{blockPart}
 use Rattle.agreement.specs.Due.{isDue, isInHead, isMisuse, Between}
 use Rattle.agreement.specs.Loans.{loanFits}
 use Rattle.agreement.specs.Run.{called, blockSeen, valueSeen}

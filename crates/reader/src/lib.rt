@@ -1,12 +1,11 @@
 // The reader: what a caller feeds, answers and ends, and what is handed out to it. Its state goes in and comes back by value,
 // and the bytes that it gathers lie in three lent buffers.
 mod feeding; // a piece of the stream
-mod parts; // what is handed out
 
 pub use calls::Outcome;
 pub use calls::answer;
 pub use calls::end;
 pub use feeding::feed;
-pub use parts::block_part;
-pub use parts::field_part;
+pub use handing::block_part;
+pub use handing::field_part;
 pub use state::fresh;

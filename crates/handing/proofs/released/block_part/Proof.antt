@@ -4,11 +4,11 @@ use native.Mathlib.Nat.{sub-zero}
 use native.Mathlib.Omega.{arith}
 use mathlib.Core.Path.{sym}
 use lib.Seq.{take-all}
-use Rattle.reader.specs.Parts.{blockPart}
+use Rattle.handing.specs.Released.{blockPart}
 use borrow.Author.Needs.{needs}
 use denote.Ref.{now}
-use Rattle.reader.proofs.parts.block_part.Statement.{statement}
-use Rattle.reader.proofs.parts.block_part.Tie as tie
+use Rattle.handing.proofs.released.block_part.Statement.{statement}
+use Rattle.handing.proofs.released.block_part.Tie as tie
 
 sub-result : tie.Need-sub-result
 sub-result c = search needs

@@ -4,8 +4,8 @@ use mathlib.Core.Path.{sym, _∙_}
 use borrow.Author.Tests.{not-true, not-false}
 use Rattle.handing.proofs.ValueLaws.{value-none, value-by}
 use borrow.Author.Needs.{needs}
-use Rattle.handing.proofs.signed_value.Statement.{statement}
-use Rattle.handing.proofs.signed_value.Tie as tie
+use Rattle.handing.proofs.signed.signed_value.Statement.{statement}
+use Rattle.handing.proofs.signed.signed_value.Tie as tie
 
 read-requires : tie.Need-read-requires
 read-requires c κs = search needs

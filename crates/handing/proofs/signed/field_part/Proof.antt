@@ -2,8 +2,8 @@
 use mathlib.Core.Path.{sym, _∙_}
 use Rattle.handing.proofs.ValueLaws.{room-small, room-over, room-whole}
 use borrow.Author.Needs.{needs}
-use Rattle.handing.proofs.value.Statement.{statement}
-use Rattle.handing.proofs.value.Tie as tie
+use Rattle.handing.proofs.signed.field_part.Statement.{statement}
+use Rattle.handing.proofs.signed.field_part.Tie as tie
 
 sub-result : tie.Need-sub-result
 sub-result c = search needs
@@ -44,8 +44,8 @@ signed-value-requires c κs = search needs
 returns-3 : tie.Need-returns-3
 returns-3 c = c .signed-value .ensures ∙ sym (room-whole _ _ _ (c .before .before .before .if1 .left) (c .before .before .if2 .left))
 
-pub value-spec : {M : Type 1} → statement M
-value-spec =
+pub field-part-spec : {M : Type 1} → statement M
+field-part-spec =
     tie.close
     (tie.spec
     sub-result
