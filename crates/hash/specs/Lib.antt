@@ -1,4 +1,3 @@
 pub mod Sha2
 pub mod Sha512
 pub mod Parts
-pub mod Example

@@ -607,7 +607,9 @@ blockRules =
 -- SHA-512, against another program and against FIPS 180-4's own example
 pub hashes : List Row
 hashes =
-    row 23 "111 bytes, the most that one block has room for" (sha512 (replicate 111 97))
+    row 23 "the standard's first example" (sha512 (octets "abc"))
+    (hexBytes (octets "ddaf35a193617abacc417349ae20413112e6fa4e89a97ea20a9eeee64b55d39a2192992a274fc1a836ba3c23a3feebbd454d4423643ce80e2a9ac94fa54ca49f"))
+    ∷ row 23 "111 bytes, the most that one block has room for" (sha512 (replicate 111 97))
     (hexBytes (octets "fa9121c7b32b9e01733d034cfc78cbf67f926c7ed83e82200ef86818196921760b4beff48404df811b953828274461673c68d04e297b0eb7b2b4d60fc6b566a2"))
     ∷ row 23 "the standard's example of 112 bytes, which takes two"
     (sha512 (octets "abcdefghbcdefghicdefghijdefghijkefghijklfghijklmghijklmnhijklmnoijklmnopjklmnopqklmnopqrlmnopqrsmnopqrstnopqrstu"))
