@@ -3,14 +3,14 @@
 use mathlib.Core.Path.{_≡_, refl, ap, _∙_}
 use mathlib.Core.List.{List, [], _∷_, map}
 use Prim.Native.Nat.{ℕ}
-use Rattle.layout.specs.Keys.{keysIn}
+use Rattle.packing.specs.Keys.{keysIn}
 use Rattle.layout.specs.State.{decoded}
 use Rattle.ring.specs.Keys.{ringOf}
 use Rattle.ring.specs.declared.KeyRing.{KeyRing}
 use Rattle.sections.specs.Calls.{Request, feed, answer, end}
 use Rattle.state.specs.Desk.{Desk, desk, freshReader}
 use Rattle.calls.specs.Call as R
-use Rattle.reader_export.specs.Export.{Answer}
+use Rattle.results.specs.Written.{Answer}
 use Rattle.reader_export.specs.Lists.{Ask, Calls, callOf, seenIn, seenOf, runOf}
 use Rattle.reader_export.proofs.ListLaws.{calls-from-fresh}
 use Rattle.agreement.specs.Plain.{plainlyShown}

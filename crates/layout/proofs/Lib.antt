@@ -1,3 +1,1 @@
-pub mod PartLaws
 pub mod StateLaws
-pub mod KeyLaws

@@ -13,87 +13,96 @@ use lib.Seq.{sets, sets-eq, length-sets, drop-at}
 use Rattle.octets.specs.Choice.{pick}
 use Rattle.state.specs.declared.phase.Phase.{Phase}
 use Rattle.state.specs.declared.phase.Phase.the-variants as P
+use Rattle.state.specs.declared.reader.Chain.{Chain}
+use Rattle.state.specs.declared.reader.Fixed.{Fixed}
 use Rattle.state.specs.declared.reader.Reader.{Reader}
 use Rattle.state.proofs.reader.Reader as declared
-use Rattle.layout.specs.Parts.{bytesOf, allBytes}
-use Rattle.layout.specs.State.{stateSize, tagOf, firstOf, secondOf, refusalOf, phaseOf, encoded, stored, decoded}
-use Rattle.layout.proofs.PartLaws.{sets-next, long-next, long-bytes, long-all, concat, At, past, part-there, number-there}
+use Rattle.packing.specs.Parts.{bytesOf, allBytes, numberAt}
+use Rattle.layout.specs.State.{stateSize, tagOf, firstOf, secondOf, refusalOf, phaseOf, phaseBytes, fixedBytes, chainBytes, encoded, stored, fixedIn, chainIn, decoded}
+use Rattle.packing.proofs.PartLaws.{sets-next, long-next, long-bytes, long-all, concat, At, past, part-there, number-there}
 
--- ---- written
+-- ---- what the head fixed
 
--- up to the id, through it, and so on
-abbrev pub front : Reader → List ℕ
-front r = allBytes (tagOf (r .phase) ∷ firstOf (r .phase) ∷ secondOf (r .phase) ∷ r .accepted ∷ r .status ∷ r .«block_size» ∷ r .key ∷ [])
+abbrev fixedFront : Fixed → List ℕ
+fixedFront f = allBytes (f .accepted ∷ f .status ∷ f .«block_size» ∷ f .key ∷ [])
 
-abbrev middle : Reader → List ℕ
-middle r = allBytes (r .«id_length» ∷ r .number .0 ∷ [])
+module _ (f : Fixed) (id : length (f .id) ≡ 64) where
+  long-front : length (fixedFront f) ≡ 32
+  long-front = long-all (f .accepted ∷ f .status ∷ f .«block_size» ∷ f .key ∷ [])
 
-abbrev withId : Reader → List ℕ
-withId r = front r ++ r .id
+  long-id : length (fixedFront f ++ f .id) ≡ 96
+  long-id = long-next (fixedFront f) (f .id) 32 64 96 long-front id refl
 
-abbrev withMiddle : Reader → List ℕ
-withMiddle r = withId r ++ middle r
+  pub long-fixed : length (fixedBytes f) ≡ 104
+  long-fixed = long-next (fixedFront f ++ f .id) (bytesOf 8 (f .«id_length»)) 96 8 104 long-id (long-bytes 8 (f .«id_length»)) refl
 
-abbrev withHash : Reader → List ℕ
-withHash r = withMiddle r ++ r .hash
+  pub fixed-put : (d l₁ l₂ l₃ : List ℕ) → l₁ ≡ sets d 24 (fixedFront f) → l₂ ≡ sets l₁ 56 (f .id) → l₃ ≡ sets l₂ 120 (bytesOf 8 (f .«id_length»)) → l₃ ≡ sets d 24 (fixedBytes f)
+  fixed-put d l₁ l₂ l₃ e₁ e₂ e₃ =
+      let p = sets-next d l₁ l₂ (fixedFront f) (f .id) 24 32 56 e₁ long-front refl e₂ in
+      sets-next d l₂ l₃ (fixedFront f ++ f .id) (bytesOf 8 (f .«id_length»)) 24 96 120 p long-id refl e₃
 
-abbrev withLine : Reader → List ℕ
-withLine r = withHash r ++ r .line
+-- numbers within their types, and arrays with their lengths, as every value in code has them
+pub record SoundFixed (f : Fixed) : Type 0 where
+  pub accepted : f .accepted < 2 ^ 64
+  pub status : f .status < 2 ^ 64
+  pub size : f .«block_size» < 2 ^ 64
+  pub key : f .key < 2 ^ 64
+  pub id : length (f .id) ≡ 64
+  pub count : f .«id_length» < 2 ^ 64
 
-module _ (r : Reader) where
-  long-front : length (front r) ≡ 56
-  long-front = long-all (tagOf (r .phase) ∷ firstOf (r .phase) ∷ secondOf (r .phase) ∷ r .accepted ∷ r .status ∷ r .«block_size» ∷ r .key ∷ [])
+module _ {whole : List ℕ} {ss : List (List ℕ)} (f : Fixed) (s : SoundFixed f) (e : At whole 24 (fixedBytes f ∷ ss)) where
+  fixed-parts : At whole 24 (bytesOf 8 (f .accepted) ∷ bytesOf 8 (f .status) ∷ bytesOf 8 (f .«block_size») ∷ bytesOf 8 (f .key) ∷ f .id ∷ bytesOf 8 (f .«id_length») ∷ ss)
+  unfolding allBytes concat
+  fixed-parts = record { there = e .there ∙ (simp (append-assoc, append-nil)) }
 
-  module _ (id : length (r .id) ≡ 64) where
-    long-id : length (withId r) ≡ 120
-    long-id = long-next (front r) (r .id) 56 64 120 long-front id refl
+  fixed-back : fixedIn whole ≡ f
+  unfolding fixedIn
+  fixed-back =
+      let a₀ = fixed-parts in
+      let a₁ = past a₀ 8 (long-bytes 8 _) in
+      let a₂ = past a₁ 8 (long-bytes 8 _) in
+      let a₃ = past a₂ 8 (long-bytes 8 _) in
+      let a₄ = past a₃ 8 (long-bytes 8 _) in
+      let a₅ = past a₄ 64 (s .id) in
+      rw (
+        number-there (f .accepted) a₀ (s .accepted),
+        number-there (f .status) a₁ (s .status),
+        number-there (f .«block_size») a₂ (s .size),
+        number-there (f .key) a₃ (s .key),
+        part-there a₄ 64 (s .id),
+        number-there (f .«id_length») a₅ (s .count),
+      )
 
-    long-middle : length (withMiddle r) ≡ 136
-    long-middle = long-next (withId r) (middle r) 120 16 136 long-id (long-all (r .«id_length» ∷ r .number .0 ∷ [])) refl
+-- ---- the chain
 
-    module _ (hash : length (r .hash) ≡ 64) where
-      long-hash : length (withHash r) ≡ 200
-      long-hash = long-next (withMiddle r) (r .hash) 136 64 200 long-middle hash refl
+module _ (c : Chain) where
+  pub long-chain : length (c .hash) ≡ 64 → length (chainBytes c) ≡ 72
+  long-chain h = long-next (bytesOf 8 (c .number .0)) (c .hash) 8 64 72 (long-bytes 8 (c .number .0)) h refl
 
-      module _ (line : length (r .line) ≡ 128) where
-        long-line : length (withLine r) ≡ 328
-        long-line = long-next (withHash r) (r .line) 200 128 328 long-hash line refl
+  pub chain-put : (d l₁ l₂ : List ℕ) → l₁ ≡ sets d 128 (bytesOf 8 (c .number .0)) → l₂ ≡ sets l₁ 136 (c .hash) → l₂ ≡ sets d 128 (chainBytes c)
+  chain-put d l₁ l₂ e₁ e₂ = sets-next d l₁ l₂ (bytesOf 8 (c .number .0)) (c .hash) 128 8 136 e₁ (long-bytes 8 (c .number .0)) refl e₂
 
-        pub long-encoded : length (encoded r) ≡ stateSize
-        unfolding encoded
-        long-encoded = long-next (withLine r) (bytesOf 8 (r .released)) 328 8 336 long-line (long-bytes 8 (r .released)) refl
+pub record SoundChain (c : Chain) : Type 0 where
+  pub number : c .number .0 < 2 ^ 64
+  pub hash : length (c .hash) ≡ 64
 
-module _ (r : Reader) (d l₁ l₂ l₃ l₄ l₅ l₆ : List ℕ) where
-  pub all-put : l₁ ≡ sets d 0 (front r) → (l₂ ≡ sets l₁ 56 (r .id)) × (length (r .id) ≡ 64) → l₃ ≡ sets l₂ 120 (middle r) → (l₄ ≡ sets l₃ 136 (r .hash)) × (length (r .hash) ≡ 64) → (l₅ ≡ sets l₄ 200 (r .line)) × (length (r .line) ≡ 128) → l₆ ≡ sets l₅ 328 (bytesOf 8 (r .released)) → l₆ ≡ sets d 0 (encoded r)
-  unfolding encoded
-  all-put e₁ e₂ e₃ e₄ e₅ e₆ =
-      let p₂ = sets-next d l₁ l₂ (front r) (r .id) 56 e₁ (long-front r) (e₂ .0) in
-      let p₃ = sets-next d l₂ l₃ (withId r) (middle r) 120 p₂ (long-id r (e₂ .1)) e₃ in
-      let p₄ = sets-next d l₃ l₄ (withMiddle r) (r .hash) 136 p₃ (long-middle r (e₂ .1)) (e₄ .0) in
-      let p₅ = sets-next d l₄ l₅ (withHash r) (r .line) 200 p₄ (long-hash r (e₂ .1) (e₄ .1)) (e₅ .0) in
-      sets-next d l₅ l₆ (withLine r) (bytesOf 8 (r .released)) 328 p₅ (long-line r (e₂ .1) (e₄ .1) (e₅ .1)) e₆
+module _ {whole : List ℕ} {ss : List (List ℕ)} (c : Chain) (s : SoundChain c) (e : At whole 128 (chainBytes c ∷ ss)) where
+  chain-parts : At whole 128 (bytesOf 8 (c .number .0) ∷ c .hash ∷ ss)
+  unfolding concat
+  chain-parts = record { there = e .there ∙ (simp append-assoc) }
 
--- ---- read back
+  chain-back : chainIn whole ≡ c
+  unfolding chainIn
+  chain-back =
+      let a = past chain-parts 8 (long-bytes 8 _) in
+      rw (number-there (c .number .0) chain-parts (s .number), part-there a 64 (s .hash))
 
--- numbers within their types, as every value in code has them
+-- ---- the phase
+
 pub record InRange (p : Phase) : Type 0 where
   pub first : firstOf p < 2 ^ 64
   pub second : secondOf p < 2 ^ 64
   pub refusal : refusalOf p < 256
-
--- and arrays with their lengths
-pub record Sound (r : Reader) : Type 0 where
-  pub phase : InRange (r .phase)
-  pub accepted : r .accepted < 2 ^ 64
-  pub status : r .status < 2 ^ 64
-  pub size : r .«block_size» < 2 ^ 64
-  pub key : r .key < 2 ^ 64
-  pub id : length (r .id) ≡ 64
-  pub count : r .«id_length» < 2 ^ 64
-  pub number : r .number .0 < 2 ^ 64
-  pub hash : length (r .hash) ≡ 64
-  pub line : length (r .line) ≡ 128
-  pub released : r .released < 2 ^ 64
 
 tag-small : (p : Phase) → tagOf p < 2 ^ 64
 tag-small (P.Head n) = omega arith
@@ -120,66 +129,85 @@ phase-back (P.Trailer have total) h = refl
 phase-back (P.Closed total) h = refl
 phase-back (P.Refused n) h = let e : n % 256 ≡ n = omega (arith, h .refusal) in rw e
 
-module _ (r : Reader) where
-  -- the parts of a state
-  abbrev parts : List ℕ → List (List ℕ)
-  parts rest =
-      bytesOf 8 (tagOf (r .phase))
-      ∷ bytesOf 8 (firstOf (r .phase))
-      ∷ bytesOf 8 (secondOf (r .phase))
-      ∷ bytesOf 8 (r .accepted)
-      ∷ bytesOf 8 (r .status)
-      ∷ bytesOf 8 (r .«block_size»)
-      ∷ bytesOf 8 (r .key)
-      ∷ r .id
-      ∷ bytesOf 8 (r .«id_length»)
-      ∷ bytesOf 8 (r .number .0)
-      ∷ r .hash
-      ∷ r .line
-      ∷ bytesOf 8 (r .released)
-      ∷ rest
-      ∷ []
+module _ {whole : List ℕ} {ss : List (List ℕ)} (p : Phase) (s : InRange p) (e : At whole 0 (phaseBytes p ∷ ss)) where
+  phase-parts : At whole 0 (bytesOf 8 (tagOf p) ∷ bytesOf 8 (firstOf p) ∷ bytesOf 8 (secondOf p) ∷ ss)
+  unfolding allBytes concat
+  phase-parts = record { there = e .there ∙ (simp (append-assoc, append-nil)) }
 
-  in-parts : (rest : List ℕ) → At (encoded r ++ rest) 0 (parts rest)
-  unfolding encoded allBytes concat
+  phase-read : phaseOf (numberAt whole 0) (numberAt whole 8) (numberAt whole 16) ≡ p
+  phase-read =
+      let a₁ = past phase-parts 8 (long-bytes 8 _) in
+      let a₂ = past a₁ 8 (long-bytes 8 _) in
+      rw (number-there (tagOf p) phase-parts (tag-small p), number-there (firstOf p) a₁ (s .first), number-there (secondOf p) a₂ (s .second)) (phase-back p s)
+
+-- ---- the whole state
+
+-- up to what the head fixed, through the chain, and through the line
+abbrev withFixed : Reader → List ℕ
+withFixed r = phaseBytes (r .phase) ++ fixedBytes (r .fixed)
+
+abbrev withChain : Reader → List ℕ
+withChain r = withFixed r ++ chainBytes (r .chain)
+
+abbrev withLine : Reader → List ℕ
+withLine r = withChain r ++ r .line
+
+module _ (r : Reader) (id : length (r .fixed .id) ≡ 64) (hash : length (r .chain .hash) ≡ 64) (line : length (r .line) ≡ 128) where
+  long-phase : length (phaseBytes (r .phase)) ≡ 24
+  long-phase = long-all (tagOf (r .phase) ∷ firstOf (r .phase) ∷ secondOf (r .phase) ∷ [])
+
+  long-to-chain : length (withFixed r) ≡ 128
+  long-to-chain = long-next (phaseBytes (r .phase)) (fixedBytes (r .fixed)) 24 104 128 long-phase (long-fixed (r .fixed) id) refl
+
+  long-to-line : length (withChain r) ≡ 200
+  long-to-line = long-next (withFixed r) (chainBytes (r .chain)) 128 72 200 long-to-chain (long-chain (r .chain) hash) refl
+
+  long-line : length (withLine r) ≡ 328
+  long-line = long-next (withChain r) (r .line) 200 128 328 long-to-line line refl
+
+  pub long-encoded : length (encoded r) ≡ stateSize
+  unfolding encoded
+  long-encoded = long-next (withLine r) (bytesOf 8 (r .released)) 328 8 336 long-line (long-bytes 8 (r .released)) refl
+
+  pub all-put : (d l₁ l₂ l₃ l₄ l₅ : List ℕ) → l₁ ≡ sets d 0 (phaseBytes (r .phase)) → l₂ ≡ sets l₁ 24 (fixedBytes (r .fixed)) → l₃ ≡ sets l₂ 128 (chainBytes (r .chain)) → l₄ ≡ sets l₃ 200 (r .line) → l₅ ≡ sets l₄ 328 (bytesOf 8 (r .released)) → l₅ ≡ sets d 0 (encoded r)
+  unfolding encoded
+  all-put d l₁ l₂ l₃ l₄ l₅ e₁ e₂ e₃ e₄ e₅ =
+      let p₂ = sets-next d l₁ l₂ (phaseBytes (r .phase)) (fixedBytes (r .fixed)) 0 24 24 e₁ long-phase refl e₂ in
+      let p₃ = sets-next d l₂ l₃ (withFixed r) (chainBytes (r .chain)) 0 128 128 p₂ long-to-chain refl e₃ in
+      let p₄ = sets-next d l₃ l₄ (withChain r) (r .line) 0 200 200 p₃ long-to-line refl e₄ in
+      sets-next d l₄ l₅ (withLine r) (bytesOf 8 (r .released)) 0 328 328 p₄ long-line refl e₅
+
+pub record Sound (r : Reader) : Type 0 where
+  pub phase : InRange (r .phase)
+  pub fixed : SoundFixed (r .fixed)
+  pub chain : SoundChain (r .chain)
+  pub line : length (r .line) ≡ 128
+  pub released : r .released < 2 ^ 64
+
+module _ (r : Reader) where
+  in-parts : (rest : List ℕ) → At (encoded r ++ rest) 0 (phaseBytes (r .phase) ∷ fixedBytes (r .fixed) ∷ chainBytes (r .chain) ∷ r .line ∷ bytesOf 8 (r .released) ∷ rest ∷ [])
+  unfolding encoded concat
   in-parts rest = record { there = simp (append-assoc, append-nil) }
 
   module _ (s : Sound r) where
     long : length (encoded r) ≡ stateSize
-    long = long-encoded r (s .id) (s .hash) (s .line)
+    long = long-encoded r (s .fixed .id) (s .chain .hash) (s .line)
 
     -- what was written is read, whatever follows it
     pub decoded-encoded : (rest : List ℕ) → decoded (encoded r ++ rest) ≡ r
     unfolding decoded
     decoded-encoded rest =
         let a₀ = in-parts rest in
-        let a₁ = past a₀ 8 (long-bytes 8 _) in
-        let a₂ = past a₁ 8 (long-bytes 8 _) in
-        let a₃ = past a₂ 8 (long-bytes 8 _) in
-        let a₄ = past a₃ 8 (long-bytes 8 _) in
-        let a₅ = past a₄ 8 (long-bytes 8 _) in
-        let a₆ = past a₅ 8 (long-bytes 8 _) in
-        let a₇ = past a₆ 8 (long-bytes 8 _) in
-        let a₈ = past a₇ 64 (s .id) in
-        let a₉ = past a₈ 8 (long-bytes 8 _) in
-        let a₁₀ = past a₉ 8 (long-bytes 8 _) in
-        let a₁₁ = past a₁₀ 64 (s .hash) in
-        let a₁₂ = past a₁₁ 128 (s .line) in
+        let a₁ = past a₀ 24 (long-all (tagOf (r .phase) ∷ firstOf (r .phase) ∷ secondOf (r .phase) ∷ [])) in
+        let a₂ = past a₁ 104 (long-fixed (r .fixed) (s .fixed .id)) in
+        let a₃ = past a₂ 72 (long-chain (r .chain) (s .chain .hash)) in
+        let a₄ = past a₃ 128 (s .line) in
         rw (
-          number-there (tagOf (r .phase)) a₀ (tag-small (r .phase)),
-          number-there (firstOf (r .phase)) a₁ (s .phase .first),
-          number-there (secondOf (r .phase)) a₂ (s .phase .second),
-          number-there (r .accepted) a₃ (s .accepted),
-          number-there (r .status) a₄ (s .status),
-          number-there (r .«block_size») a₅ (s .size),
-          number-there (r .key) a₆ (s .key),
-          part-there a₇ 64 (s .id),
-          number-there (r .«id_length») a₈ (s .count),
-          number-there (r .number .0) a₉ (s .number),
-          part-there a₁₀ 64 (s .hash),
-          part-there a₁₁ 128 (s .line),
-          number-there (r .released) a₁₂ (s .released),
-          phase-back (r .phase) (s .phase),
+          phase-read (r .phase) (s .phase) a₀,
+          fixed-back (r .fixed) (s .fixed) a₁,
+          chain-back (r .chain) (s .chain) a₂,
+          part-there a₃ 128 (s .line),
+          number-there (r .released) a₄ (s .released),
         )
 
     -- in a buffer with room, too
@@ -211,7 +239,7 @@ pub stored-stored : (r : Reader) → Sound r → (n : Reader) → Sound n → (d
 stored-stored r s n t d h =
     stored-is n t (stored r d) (omega (arith, long-stored r d))
     ∙ ap (λ (l : List ℕ). encoded n ++ drop stateSize l) (stored-is r s d h)
-    ∙ ap (λ (l : List ℕ). encoded n ++ l) (drop-at (encoded r) (drop stateSize d) stateSize (long-encoded r (s .id) (s .hash) (s .line)))
+    ∙ ap (λ (l : List ℕ). encoded n ++ l) (drop-at (encoded r) (drop stateSize d) stateSize (long r s))
     ∙ sym (stored-is n t d h)
 
 -- ---- a value in the code is sound: its numbers and arrays by what owning it gives, `c .good` of a parameter
@@ -219,16 +247,20 @@ stored-stored r s n t d h =
 pub sound : (r : Reader) (vs : List Val) → Is declared.the-row r vs → InRange (r .phase) → Sound r
 sound r vs is p =
     let f = is .1 .1 in
+    let g = f .1 .0 .1 .1 in
+    let c = f .1 .1 .0 .1 .1 in
     record {
       phase = p;
-      accepted = f .1 .0 .1;
-      status = f .1 .1 .0 .1;
-      size = f .1 .1 .1 .0 .1;
-      key = f .1 .1 .1 .1 .0 .1;
-      id = simp length-map at (f .1 .1 .1 .1 .1 .0 .1 .0 .1);
-      count = f .1 .1 .1 .1 .1 .1 .0 .1;
-      number = f .1 .1 .1 .1 .1 .1 .1 .0 .1 .1 .0 .1;
-      hash = simp length-map at (f .1 .1 .1 .1 .1 .1 .1 .1 .0 .1 .0 .1);
-      line = simp length-map at (f .1 .1 .1 .1 .1 .1 .1 .1 .1 .0 .1 .0 .1);
-      released = f .1 .1 .1 .1 .1 .1 .1 .1 .1 .1 .0 .1;
+      fixed =
+          record {
+            accepted = g .0 .1;
+            status = g .1 .0 .1;
+            size = g .1 .1 .0 .1;
+            key = g .1 .1 .1 .0 .1;
+            id = simp length-map at (g .1 .1 .1 .1 .0 .1 .0 .1);
+            count = g .1 .1 .1 .1 .1 .0 .1;
+          };
+      chain = record { number = c .0 .1 .1 .0 .1; hash = simp length-map at (c .1 .0 .1 .0 .1) };
+      line = simp length-map at (f .1 .1 .1 .0 .1 .0 .1);
+      released = f .1 .1 .1 .1 .0 .1;
     }

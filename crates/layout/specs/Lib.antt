@@ -1,4 +1,1 @@
-pub mod Parts
 pub mod State
-pub mod Keys
-pub mod Results

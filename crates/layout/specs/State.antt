@@ -8,8 +8,10 @@ use Rattle.octets.specs.Choice.{pick}
 use Rattle.stream.specs.Limits.{idLimit, lineLimit}
 use Rattle.state.specs.declared.phase.Phase.{Phase}
 use Rattle.state.specs.declared.phase.Phase.the-variants as P
+use Rattle.state.specs.declared.reader.Chain.{Chain}
+use Rattle.state.specs.declared.reader.Fixed.{Fixed}
 use Rattle.state.specs.declared.reader.Reader.{Reader}
-use Rattle.layout.specs.Parts.{bytesOf, allBytes, part, numberAt}
+use Rattle.packing.specs.Parts.{bytesOf, allBytes, part, numberAt}
 
 -- how many bytes a state takes
 abbrev pub stateSize : ℕ
@@ -82,33 +84,47 @@ phaseOf tag a b =
 
 -- ---- the whole state
 
--- tag, counts and what the head says; the id; its length and the number of the block; its hash; the line; what is released
+-- a tag and two counts
+abbrev pub phaseBytes : Phase → List ℕ
+phaseBytes p = allBytes (tagOf p ∷ firstOf p ∷ secondOf p ∷ [])
+
+-- what the head fixed; the id stands before its length
+abbrev pub fixedBytes : Fixed → List ℕ
+fixedBytes f = allBytes (f .accepted ∷ f .status ∷ f .«block_size» ∷ f .key ∷ []) ++ f .id ++ bytesOf 8 (f .«id_length»)
+
+-- the number of the block under way, and the hash of the one before it
+abbrev pub chainBytes : Chain → List ℕ
+chainBytes c = bytesOf 8 (c .number .0) ++ c .hash
+
+-- one after the other, and what is released
 unfoldable pub encoded : Reader → List ℕ
-encoded r =
-    allBytes (tagOf (r .phase) ∷ firstOf (r .phase) ∷ secondOf (r .phase) ∷ r .accepted ∷ r .status ∷ r .«block_size» ∷ r .key ∷ [])
-    ++ r .id
-    ++ allBytes (r .«id_length» ∷ r .number .0 ∷ [])
-    ++ r .hash
-    ++ r .line
-    ++ bytesOf 8 (r .released)
+encoded r = phaseBytes (r .phase) ++ fixedBytes (r .fixed) ++ chainBytes (r .chain) ++ r .line ++ bytesOf 8 (r .released)
 
 -- written over the front of a buffer; one that is too short is left as it is
 unfoldable pub stored : Reader → List ℕ → List ℕ
 stored r l = pick (leb stateSize (length l)) (sets l 0 (encoded r)) l
 
--- the state that any bytes say
-unfoldable pub decoded : List ℕ → Reader
-decoded l =
+-- what any bytes say
+unfoldable pub fixedIn : List ℕ → Fixed
+fixedIn l =
     record {
-      phase = phaseOf (numberAt l 0) (numberAt l 8) (numberAt l 16);
       accepted = numberAt l 24;
       status = numberAt l 32;
       «block_size» = numberAt l 40;
       key = numberAt l 48;
       id = part l 56 idLimit;
       «id_length» = numberAt l 120;
-      number = record { 0 = numberAt l 128 };
-      hash = part l 136 64;
+    }
+
+unfoldable pub chainIn : List ℕ → Chain
+chainIn l = record { number = record { 0 = numberAt l 128 }; hash = part l 136 64 }
+
+unfoldable pub decoded : List ℕ → Reader
+decoded l =
+    record {
+      phase = phaseOf (numberAt l 0) (numberAt l 8) (numberAt l 16);
+      fixed = fixedIn l;
+      chain = chainIn l;
       line = part l 200 lineLimit;
       released = numberAt l 328;
     }

@@ -8,8 +8,8 @@ use Prim.Native.Nat.{ℕ, _≤_}
 use borrow.Author.Tests.{leb-true, le-leb}
 use lib.Dec.{leb}
 use lib.ListN.{length}
-use Rattle.layout.specs.Keys.{keysIn}
-use Rattle.layout.specs.Results.{resultSize}
+use Rattle.packing.specs.Keys.{keysIn}
+use Rattle.results.specs.Results.{resultSize}
 use Rattle.layout.specs.State.{stateSize, stored, decoded}
 use Rattle.layout.proofs.StateLaws.{Sound, decoded-stored, long-stored, stored-stored}
 use Rattle.calls.specs.Answer.{answerOf, endOf}
@@ -20,7 +20,8 @@ use Rattle.ring.specs.declared.KeyRing.{KeyRing}
 use Rattle.state.specs.Desk.{desk}
 use Rattle.state.specs.declared.reader.Reader.{Reader}
 use Rattle.calls.proofs.CallLaws.{no}
-use Rattle.reader_export.specs.Export.{short, made, areLong, answered, called, feedIn, answerIn, endIn}
+use Rattle.results.specs.Written.{made, areLong, answered}
+use Rattle.reader_export.specs.Export.{short, called, feedIn, answerIn, endIn}
 
 -- ---- the ways of the code
 
@@ -28,16 +29,16 @@ both : (a b : Bool) → a && b ≡ true → a ≡ true
 both true b e = refl
 both false b e = no e
 
-pub long-state : (s t : List ℕ) → areLong s t ≡ true → stateSize ≤ length s
+pub long-state : (s t : List ℕ) → areLong (length s) (length t) ≡ true → stateSize ≤ length s
 unfolding areLong
 long-state s t e = leb-true stateSize (length s) (both (leb stateSize (length s)) _ e)
 
-pub call-short : (s h b q t : List ℕ) (c : Call) → areLong s t ≡ false → made short s h b q t ≡ called s h b q t c
+pub call-short : (s h b q t : List ℕ) (c : Call) → areLong (length s) (length t) ≡ false → made short s h b q t ≡ called s h b q t c
 unfolding called
 call-short s h b q t c e = rw e
 
 -- the reader's outcome o, with the buffers that it left
-module _ (s t : List ℕ) (c : Call) (o : Outcome) (s' h' b' q' : List ℕ) (e : areLong s t ≡ true) (f : callOf o h' b' q' ≡ c) where
+module _ (s t : List ℕ) (c : Call) (o : Outcome) (s' h' b' q' : List ℕ) (e : areLong (length s) (length t) ≡ true) (f : callOf o h' b' q' ≡ c) where
   pub call-whole : (h b q t' : List ℕ) (n : ℕ) → ((h b q : List ℕ) → made n s' h b q t' ≡ answered s t (callOf o h b q)) → made n s' h' b' q' t' ≡ called s h b q t c
   unfolding called
   call-whole h b q t' n g = rw e (g h' b' q' ∙ ap (λ (c : Call). answered s t c) f)
@@ -58,7 +59,7 @@ module _ (s h b q : List ℕ) (r : Reader) (e : r ≡ decoded s) (c : Call) wher
 
 -- ---- on a state that was written down
 
-pub are-long : (s t : List ℕ) → stateSize ≤ length s → resultSize ≤ length t → areLong s t ≡ true
+pub are-long : (s t : List ℕ) → stateSize ≤ length s → resultSize ≤ length t → areLong (length s) (length t) ≡ true
 unfolding areLong
 are-long s t h k = rw (le-leb stateSize (length s) h, le-leb resultSize (length t) k)
 

@@ -2,14 +2,14 @@
 use mathlib.Core.List.{List, _∷_, map}
 use mathlib.Core.Path.{_≡_, refl, ap, _∙_}
 use Prim.Native.Nat.{ℕ}
-use Rattle.layout.specs.Keys.{keysIn}
+use Rattle.packing.specs.Keys.{keysIn}
 use Rattle.layout.specs.State.{decoded}
 use Rattle.calls.specs.Call.{Call}
-use Rattle.reader.specs.Parts.{freshReader}
 use Rattle.sections.specs.Calls.{Request, feed, answer, end}
-use Rattle.state.specs.Desk.{Desk, desk}
+use Rattle.state.specs.Desk.{Desk, desk, freshReader}
 use Rattle.state.specs.declared.reader.Reader.{Reader}
-use Rattle.reader_export.specs.Export.{Answer, answered, called, deskIn}
+use Rattle.results.specs.Written.{Answer, answered}
+use Rattle.reader_export.specs.Export.{called, deskIn}
 use Rattle.reader_export.specs.Lists.{Ask, callIn, Kept, Calls, over, next, callOf, Seen, seenIn, seenOf, runOf}
 
 -- a call on bytes is the reader's, on the state that they say

@@ -1,21 +1,21 @@
 -- What the exported functions answer and leave in the bytes that they are lent, in terms of the reader's own calls (crate reader) and of
 -- the layouts (crate layout). Assumes nothing.
-use mathlib.Core.Bool.{Bool, not, _&&_}
+use mathlib.Core.Bool.{Bool, not}
 use mathlib.Core.List.{List, []}
 use Prim.Native.Nat.{ℕ}
 use lib.Dec.{eqb, leb}
 use lib.ListN.{length}
 use Rattle.octets.specs.Choice.{pick}
 use Rattle.handing.specs.Handing.{handedValue}
-use Rattle.layout.specs.Keys.{keysIn}
-use Rattle.layout.specs.Parts.{Placed, placing, placed}
-use Rattle.layout.specs.Results.{resultSize, wordOf, resultIn}
+use Rattle.packing.specs.Keys.{keysIn}
+use Rattle.packing.specs.Parts.{Placed, placing, placed}
+use Rattle.results.specs.Written.{Answer, made, areLong, answered}
 use Rattle.layout.specs.State.{stateSize, stored, decoded}
 use Rattle.calls.specs.Answer.{answerOf, endOf}
 use Rattle.calls.specs.Call.{Call}
 use Rattle.reader.specs.Feed.{feedOf}
-use Rattle.reader.specs.Parts.{blockPart, freshReader}
-use Rattle.state.specs.Desk.{Desk, desk}
+use Rattle.handing.specs.Released.{blockPart}
+use Rattle.state.specs.Desk.{Desk, desk, freshReader}
 
 -- the answer where the buffer of the state or of the result is too short: nothing is changed then
 abbrev pub short : ℕ
@@ -35,29 +35,8 @@ begunIn s = pick (leb stateSize (length s)) (begun 0 (stored freshReader s)) (be
 
 -- ---- the three calls
 
--- the number that is returned, and all bytes that are lent as they are then
-pub record Answer : Type 0 where
-  pub word : ℕ
-  pub state : List ℕ
-  pub head : List ℕ
-  pub block : List ℕ
-  pub question : List ℕ
-  pub result : List ℕ
-
-abbrev pub made : ℕ → List ℕ → List ℕ → List ℕ → List ℕ → List ℕ → Answer
-made n s h b q t = record { word = n; state = s; head = h; block = b; question = q; result = t }
-
-unfoldable pub areLong : List ℕ → List ℕ → Bool
-areLong s t = leb stateSize (length s) && leb resultSize (length t)
-
--- what a call of the reader gives, with the state after it and its result written down
-abbrev pub answered : List ℕ → List ℕ → Call → Answer
-answered s t c =
-    made (wordOf (c .word)) (stored (c .after .reader) s) (c .after .head) (c .after .block) (c .after .question)
-    (resultIn (c .word) (c .taken) (c .signature) t)
-
 unfoldable pub called : List ℕ → List ℕ → List ℕ → List ℕ → List ℕ → Call → Answer
-called s h b q t c = pick (areLong s t) (answered s t c) (made short s h b q t)
+called s h b q t c = pick (areLong (length s) (length t)) (answered s t c) (made short s h b q t)
 
 -- the reader that the bytes say, with the buffers that it is lent
 abbrev pub deskIn : List ℕ → List ℕ → List ℕ → List ℕ → Desk
@@ -82,4 +61,4 @@ unfoldable pub blockIn : List ℕ → List ℕ → List ℕ
 blockIn s b = pick (leb stateSize (length s)) (blockPart b (decoded s .released)) []
 
 unfoldable pub valueIn : List ℕ → List ℕ → List ℕ → List ℕ → Placed
-valueIn s h name v = pick (leb stateSize (length s)) (placed (handedValue h (decoded s .accepted) name) v) (placing 0 v)
+valueIn s h name v = pick (leb stateSize (length s)) (placed (handedValue h (decoded s .fixed .accepted) name) v) (placing 0 v)

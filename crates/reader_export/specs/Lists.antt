@@ -3,7 +3,8 @@ use mathlib.Core.Bool.{true}
 use mathlib.Core.List.{List, [], _∷_}
 use mathlib.Core.Path.{_≡_}
 use Prim.Native.Nat.{ℕ}
-use Rattle.layout.specs.Results.{wordOf, resultIn}
+use lib.ListN.{length}
+use Rattle.results.specs.Results.{wordOf, resultIn}
 use Rattle.layout.specs.State.{decoded}
 use Rattle.calls.specs.Answer.{answerOf, endOf}
 use Rattle.calls.specs.Call.{Call}
@@ -11,7 +12,8 @@ use Rattle.reader.specs.Feed.{feedOf}
 use Rattle.ring.specs.declared.KeyRing.{KeyRing}
 use Rattle.sections.specs.Calls.{Request, feed, answer, end}
 use Rattle.state.specs.Desk.{Desk}
-use Rattle.reader_export.specs.Export.{Answer, areLong, called, deskIn, feedIn, answerIn, endIn}
+use Rattle.results.specs.Written.{Answer, areLong}
+use Rattle.reader_export.specs.Export.{called, deskIn, feedIn, answerIn, endIn}
 
 -- what a call asks for, and the buffer that is lent for its result
 pub record Ask : Type 0 where
@@ -28,7 +30,7 @@ callIn ring s h b q end = endIn s h b q
 
 -- what the two clauses of such a function's contract say of an answer, where the buffers for state and result are long enough
 pub record Kept (ring s h b q : List ℕ) (k : Ask) (a : Answer) : Type 0 where
-  pub long : areLong s (k .result) ≡ true
+  pub long : areLong (length s) (length (k .result)) ≡ true
   pub whole : a ≡ called s h b q (k .result) (callIn ring s h b q (k .request))
   pub carried : decoded (a .state) ≡ callIn ring s h b q (k .request) .after .reader
 

@@ -1,19 +1,20 @@
 // The reader for a program in C or another language, with numbers and slices of bytes alone: its state lies in a lent buffer, is read
 // from it before each call and written back after it. Any bytes may stand in that buffer. See include/ouinet_reader.h.
-mod writing; // what a call leaves, written down
-
-use crate::writing::SHORT;
-use crate::writing::are_long;
-use crate::writing::finish;
 use layout::STATE_SIZE;
+use results::are_long;
+use results::finish;
 ghost use mathlib.Core.Bool.{true};
 ghost use mathlib.Core.Path.{_≡_};
 ghost use Prim.Native.Nat.{_≤_};
 ghost use lib.ListN.{length};
-ghost use Rattle.layout.specs.Parts.{placing};
+ghost use Rattle.packing.specs.Parts.{placing};
 ghost use Rattle.layout.specs.State.{stateSize, decoded};
-ghost use Rattle.reader.specs.Parts.{freshReader};
-ghost use Rattle.reader_export.specs.Export.{begun, begunIn, made, areLong, called, feedIn, answerIn, endIn, isYes, blockIn, valueIn};
+ghost use Rattle.state.specs.Desk.{freshReader};
+ghost use Rattle.results.specs.Written.{made, areLong};
+ghost use Rattle.reader_export.specs.Export.{called, begun, begunIn, feedIn, answerIn, endIn, isYes, blockIn, valueIn};
+
+// The answer where the buffer of the state or of the result is too short.
+const SHORT: u8 = 255;
 
 // A reader before its stream. 0, or 255 where the buffer is too short: it is then left as it is.
 #[no_mangle]
@@ -41,9 +42,9 @@ pub extern "C" fn ouinet_reader_feed(
     result: &mut [u8],
 ) -> u8
     ensures whole { λ r. ⌜ made r (now (state .exit)) (now (head .exit)) (now (block .exit)) (now (question .exit)) (now (result .exit)) ≡ called (now (state .entry)) (now (head .entry)) (now (block .entry)) (now (question .entry)) (now (result .entry)) (feedIn (now (state .entry)) (now (head .entry)) (now (block .entry)) (now (question .entry)) (now (ring .entry)) (now (piece .entry))) ⌝ }
-    ensures carried { λ _. ⌜ (areLong (now (state .entry)) (now (result .entry)) ≡ true → decoded (now (state .exit)) ≡ feedIn (now (state .entry)) (now (head .entry)) (now (block .entry)) (now (question .entry)) (now (ring .entry)) (now (piece .entry)) .after .reader) ⌝ }
+    ensures carried { λ _. ⌜ (areLong (length (now (state .entry))) (length (now (result .entry))) ≡ true → decoded (now (state .exit)) ≡ feedIn (now (state .entry)) (now (head .entry)) (now (block .entry)) (now (question .entry)) (now (ring .entry)) (now (piece .entry)) .after .reader) ⌝ }
 {
-    if !are_long(state, result) {
+    if !are_long(state.len(), result.len()) {
         return SHORT;
     }
     let o = reader::feed(
@@ -51,7 +52,7 @@ pub extern "C" fn ouinet_reader_feed(
         head,
         block,
         question,
-        layout::keys_in(ring),
+        packing::keys_in(ring),
         piece,
     );
     finish(o, state, result)
@@ -68,9 +69,9 @@ pub extern "C" fn ouinet_reader_answer(
     result: &mut [u8],
 ) -> u8
     ensures whole { λ r. ⌜ made r (now (state .exit)) (now (head .exit)) (now (block .exit)) (now (question .exit)) (now (result .exit)) ≡ called (now (state .entry)) (now (head .entry)) (now (block .entry)) (now (question .entry)) (now (result .entry)) (answerIn (now (state .entry)) (now (head .entry)) (now (block .entry)) (now (question .entry)) (isYes good)) ⌝ }
-    ensures carried { λ _. ⌜ (areLong (now (state .entry)) (now (result .entry)) ≡ true → decoded (now (state .exit)) ≡ answerIn (now (state .entry)) (now (head .entry)) (now (block .entry)) (now (question .entry)) (isYes good) .after .reader) ⌝ }
+    ensures carried { λ _. ⌜ (areLong (length (now (state .entry))) (length (now (result .entry))) ≡ true → decoded (now (state .exit)) ≡ answerIn (now (state .entry)) (now (head .entry)) (now (block .entry)) (now (question .entry)) (isYes good) .after .reader) ⌝ }
 {
-    if !are_long(state, result) {
+    if !are_long(state.len(), result.len()) {
         return SHORT;
     }
     let o = reader::answer(layout::load(state), head, block, question, good != 0);
@@ -87,9 +88,9 @@ pub extern "C" fn ouinet_reader_end(
     result: &mut [u8],
 ) -> u8
     ensures whole { λ r. ⌜ made r (now (state .exit)) (now (head .exit)) (now (block .exit)) (now (question .exit)) (now (result .exit)) ≡ called (now (state .entry)) (now (head .entry)) (now (block .entry)) (now (question .entry)) (now (result .entry)) (endIn (now (state .entry)) (now (head .entry)) (now (block .entry)) (now (question .entry))) ⌝ }
-    ensures carried { λ _. ⌜ (areLong (now (state .entry)) (now (result .entry)) ≡ true → decoded (now (state .exit)) ≡ endIn (now (state .entry)) (now (head .entry)) (now (block .entry)) (now (question .entry)) .after .reader) ⌝ }
+    ensures carried { λ _. ⌜ (areLong (length (now (state .entry))) (length (now (result .entry))) ≡ true → decoded (now (state .exit)) ≡ endIn (now (state .entry)) (now (head .entry)) (now (block .entry)) (now (question .entry)) .after .reader) ⌝ }
 {
-    if !are_long(state, result) {
+    if !are_long(state.len(), result.len()) {
         return SHORT;
     }
     let o = reader::end(layout::load(state), head, block, question);
@@ -124,7 +125,8 @@ pub extern "C" fn ouinet_reader_value(
         return 0;
     }
     let r = layout::load(state);
-    let accepted = r.accepted;
+    let fixed = r.fixed;
+    let accepted = fixed.accepted;
     let part = reader::field_part(head, accepted, name);
-    layout::place(part, value)
+    packing::place(part, value)
 }

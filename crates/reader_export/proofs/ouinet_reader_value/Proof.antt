@@ -26,7 +26,7 @@ unfolding valueIn
 returns-2 c =
     let p = c .before .before in
     let f = p .before .before in
-    let r = f .before in
+    let r = f .before .before in
     rw (le-leb _ _ (r .before .if1 .left), p .place .ensures, f .field-part .ensures, r .load .ensures)
 
 pub ouinet-reader-value-spec : {M : Type 1} → statement M

@@ -1,0 +1,14 @@
+// Numbers and runs of bytes at the places of a buffer, and a key ring that is written so. Every number is 8 bytes, the lowest first.
+// Bytes past a buffer's end are read as 0, and those that would go there are not written.
+mod keys; // a key ring
+mod parts; // numbers and runs of bytes
+
+pub use keys::keys_in;
+pub use parts::bytes_64;
+pub use parts::bytes_128;
+pub use parts::number_at;
+pub use parts::place;
+pub use parts::put_64;
+pub use parts::put_128;
+pub use parts::put_number;
+pub use parts::put_numbers;
