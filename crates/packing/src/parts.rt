@@ -65,12 +65,7 @@ pub(crate) fn copy_part(to: &mut [u8], from: &[u8], at: usize)
     }
 }
 
-fn low_byte(n: u64) -> u8
-    ensures { λ r. ⌜ r ≡ n % 256 ⌝ }
-{
-    (n % 256) as u8
-}
-
+// The bytes from the place `at` on, as an array.
 pub fn bytes_64(from: &[u8], at: u16) -> [u8; 64]
     ensures { λ r. ⌜ r ≡ part (now (from .entry)) at 64 ⌝ }
 {
@@ -94,7 +89,13 @@ fn room(n: usize, length: usize, at: usize) -> usize
     places::least(n, places::less(length, at))
 }
 
-// Writes a number over eight bytes, from the place `at` on.
+fn low_byte(n: u64) -> u8
+    ensures { λ r. ⌜ r ≡ n % 256 ⌝ }
+{
+    (n % 256) as u8
+}
+
+// Writes a number over eight bytes, from the place `at` on, whatever that is.
 fn write_number(to: &mut [u8], at: usize, n: u64)
     ensures { λ _. ⌜ now (to .exit) ≡ sets (now (to .entry)) at (bytesOf 8 n) ⌝ }
 {
@@ -109,6 +110,7 @@ fn write_number(to: &mut [u8], at: usize, n: u64)
     }
 }
 
+// The same at a place of a layout.
 pub fn put_number(to: &mut [u8], at: u16, n: u64)
     ensures { λ _. ⌜ now (to .exit) ≡ sets (now (to .entry)) at (bytesOf 8 n) ⌝ }
 {

@@ -1,5 +1,5 @@
 -- What the exported functions answer and leave in the bytes that they are lent, in terms of the reader's own calls (crate reader) and of
--- the layouts (crate layout). Assumes nothing.
+-- how state, ring and results are written down (crates layout, packing and results). Assumes nothing.
 use mathlib.Core.Bool.{Bool, not}
 use mathlib.Core.List.{List, []}
 use Prim.Native.Nat.{ℕ}

@@ -52,7 +52,7 @@ wrapping-add-u64-requires-3 : tie.Need-wrapping-add-u64-requires-3
 wrapping-add-u64-requires-3 c κs = search needs
 
 returns : tie.Need-returns
-returns c = cc
+returns c = rw (c .wrapping-add-u643 .ensures, c .before .before .wrapping-add-u642 .ensures, c .before .before .before .small0 .ensures, c .before .before .before .before .before .wrapping-add-u64 .ensures, c .before .before .before .before .before .before .before .small1 .ensures)
 
 pub next-word-spec : {M : Type 1} → statement M
 next-word-spec =
