@@ -1,5 +1,5 @@
 # make run      the main job on its built-in example
-# make test     proves every crate from nothing and runs all tests: the gate. RT_JOBS=3 has rt prove three crates or edits at a time
+# make test     proves every crate from nothing and runs all tests: the gate. RT_JOBS=3 has rt prove three crates or edits at a time, and not twice as many as there are cores
 # make long     the body's limit itself, 4,294,967,296 bytes and one more, through a pipe; about a minute, and not in the gate
 # make fuzz     a million random lists of calls beside the second reader, then the C interface's fuzz target for two minutes
 # make bench    speed: SHA-512 and the whole reader beside ordinary Rust ones, and the judgement of a large head
