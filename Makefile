@@ -1,11 +1,11 @@
 # make run      the main job on its built-in example
-# make test     proves every crate from nothing and runs all tests: the gate. RT_JOBS=3 has rt prove three crates or edits at a time, and not twice as many as there are cores
+# make test     proves every crate from nothing and runs all tests: the gate. RT_JOBS=3 has rt prove three crates or edits at a time, and not three times as many as there are cores
 # make long     the body's limit itself, 4,294,967,296 bytes and one more, through a pipe; about a minute, and not in the gate
 # make fuzz     a million random lists of calls beside the second reader, then the C interface's fuzz target for two minutes
 # make bench    speed: SHA-512 and the whole reader beside ordinary Rust ones, and the judgement of a large head
 # make fetch    the programs oui-fetch, oui-sign and oui-relay, in rust/target/release
 # make picture  docs/crates.svg anew from crates.txt
-# What is under way is told on standard error (scripts/progress).
+# What is under way is told on standard error, by make test on standard output (scripts/progress).
 .PHONY: run test long fuzz bench program fetch picture
 
 run: program
@@ -35,7 +35,7 @@ fetch:
 	@echo 'oui-fetch, oui-sign and oui-relay are in rust/target/release'
 
 picture:
-	@scripts/crates-picture >docs/crates.svg
+	@scripts/crates-picture >docs/crates.svg.new && mv docs/crates.svg.new docs/crates.svg
 
 # The program alone, proved and linked
 program:

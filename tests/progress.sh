@@ -126,7 +126,9 @@ run scripts/progress it "$work/none"
 expect 'no command' 1
 good | says 'sleep 1; exit 0'
 TERM=xterm run script -qec 'stty cols 40; scripts/progress all rt ci' /dev/null
-expect 'a terminal' 0 not "${steps[0]}" not 'note: of upper'
+expect 'a terminal' 0
+# Its lines end in CR LF here
+check 'no step has a line of its own' test "$(grep -cF -e "${steps[0]}" -e 'note: of upper' said)" -eq 0
 check 'one line is rewritten' grep -q $'\rrunning the programs, [0-9]* s so far\e\\[K\r' said
 check 'it is cleared' grep -q $'^.*\r\e\\[Kall: 4 passed, 0 failed, [0-9]* s\r$' said
 

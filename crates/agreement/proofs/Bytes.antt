@@ -17,7 +17,7 @@ use Rattle.state.specs.Desk.{Desk, Next}
 use Rattle.state.specs.Run.{Fed, runOf}
 use Rattle.state.specs.Run as Run
 use Rattle.state.specs.declared.phase.Phase.{Phase}
-use Rattle.state.specs.declared.word.Word as State
+use Rattle.state.specs.declared.word.Word as Code
 use Rattle.reader.specs.Feed.{pushAt, pushByte}
 use Rattle.agreement.specs.Plain.{toldEvent}
 use Rattle.agreement.specs.Run.{wordSeen}
@@ -32,7 +32,7 @@ use Rattle.agreement.proofs.HeadSteps.{head-step}
 pub data FedAs (ring : Ring) (fields : List Field) (t : ℕ) : Fed → Turn Context Question Release LastWord → Type 0 where
   all : {d : Desk} {c : Context} {g : List ℕ} {m n : ℕ} → m ≡ t + n → Reads ring fields d (running c g)
       → FedAs ring fields t (Run.more m d) ((S.more, n), running c g)
-  upTo : {d : Desk} {s : Standing} {w : State.Word} {signature : List ℕ} {e : Event Question Release LastWord} {m n : ℕ} → m ≡ t + n
+  upTo : {d : Desk} {s : Standing} {w : Code.Word} {signature : List ℕ} {e : Event Question Release LastWord} {m n : ℕ} → m ≡ t + n
       → wordSeen w signature d ≡ event (toldEvent e) → isRelease e ≡ false → Reads ring fields d s
       → FedAs ring fields t (Run.event w signature m d) ((event e, n), s)
 

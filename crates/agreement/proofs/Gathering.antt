@@ -14,7 +14,7 @@ use Rattle.stream.specs.Stream.{Show, Past, Context, isWhole}
 use Rattle.stream.proofs.Sound.{limitOf, whole-at-limit}
 use Rattle.state.specs.Desk.{Desk, renewed}
 use Rattle.state.specs.declared.phase.Phase.{Phase}
-use Rattle.agreement.proofs.Stands.{Gathered, Keeps, Counts, Lent, Under}
+use Rattle.agreement.proofs.Stands.{Gathered, Lent, Under}
 
 pub none-gathered : (buffer : List ℕ) → Gathered buffer 0 []
 none-gathered buffer = record { bytes = refl; count = refl }

@@ -69,7 +69,7 @@ module _ (ring : Ring) (fields : List Field) (d : Desk) (x : ℕ) (lent : Lent d
   abbrev asks : Reader
   asks =
       asking (d′ .reader) (have + 1)
-      (fixing (d′ .reader) (decimalValue (statusDigits (headOf l))) (blockSize (headOf l)) (numberOf (trustedBy ring (headOf l)))
+      (fixing (d′ .reader .fixed) (decimalValue (statusDigits (headOf l))) (blockSize (headOf l)) (numberOf (trustedBy ring (headOf l)))
       (padded idLimit (injectionId (headOf l))) (length (injectionId (headOf l))))
 
   kept : Keeps (asks .fixed) (showOf ring (headOf l))

@@ -18,7 +18,7 @@ use Rattle.handing.specs.Handing.{handedValue}
 use Rattle.state.specs.Desk.{Desk}
 use Rattle.state.specs.declared.phase.Phase.{Phase}
 use Rattle.calls.specs.Call as R
-use Rattle.calls.specs.Call.{areRoomy, fits, isReading, unchanged, takingBack, recalled}
+use Rattle.calls.specs.Call.{areRoomy, fits, isReading, unchanged, recalled}
 use Rattle.handing.specs.Released.{blockPart}
 use Rattle.agreement.specs.Plain.{toldWord, Handed, handedAfter, shows}
 use Rattle.agreement.specs.Run.{isOfCall, wordSeen, seen}

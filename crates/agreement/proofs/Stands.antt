@@ -28,7 +28,7 @@ use Rattle.state.specs.declared.phase.Phase.{Phase}
 use Rattle.state.specs.declared.phase.Phase.the-variants as P
 use Rattle.state.specs.declared.reader.Chain.{Chain}
 use Rattle.state.specs.declared.reader.Fixed.{Fixed}
-use Rattle.state.specs.declared.word.Word as State
+use Rattle.state.specs.declared.word.Word as Code
 use Rattle.agreement.specs.Plain.{toldEvent}
 use Rattle.agreement.specs.Run.{wordSeen}
 
@@ -136,6 +136,6 @@ isRelease (last l) = false
 -- what a byte does to the reader is what it does to the machine
 pub data Follows (ring : Ring) (fields : List Field) : Next → Step Context Question Release LastWord → Type 0 where
   on : {d : Desk} {c : Context} {g : List ℕ} → Reads ring fields d (running c g) → Follows ring fields (D.on d) (M.on c g)
-  says : {d : Desk} {s : Standing} {w : State.Word} {signature : List ℕ} {e : Event Question Release LastWord}
+  says : {d : Desk} {s : Standing} {w : Code.Word} {signature : List ℕ} {e : Event Question Release LastWord}
       → wordSeen w signature d ≡ event (toldEvent e) → isRelease e ≡ false → Reads ring fields d s
       → Follows ring fields (D.stop w signature d) (M.decides e s)

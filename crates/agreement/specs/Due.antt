@@ -5,7 +5,7 @@ use Prim.Native.Nat.{ℕ, _≤_}
 use Rattle.sections.specs.Calls.{Request, feed, answer, end}
 use Rattle.state.specs.declared.phase.Phase.{Phase}
 use Rattle.state.specs.declared.phase.Phase.the-variants as P
-use Rattle.state.specs.declared.word.Word as State
+use Rattle.state.specs.declared.word.Word as Code
 use Rattle.state.specs.declared.word.Word.the-variants as W
 use Rattle.calls.specs.Call.{isReading}
 use Rattle.agreement.specs.Run.{isOfCall}
@@ -43,7 +43,7 @@ isInHead (P.Closed total) = false
 isInHead (P.Refused n) = false
 
 -- the word is refusal 1 or 2
-abbrev pub isMisuse : State.Word → Bool
+abbrev pub isMisuse : Code.Word → Bool
 isMisuse W.More = false
 isMisuse (W.Question n key) = false
 isMisuse (W.Head status) = false

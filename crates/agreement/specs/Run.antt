@@ -15,7 +15,7 @@ use Rattle.stream.specs.Events.{Question, LastWord, closed, refused}
 use Rattle.handing.specs.Handing.{handedValue}
 use Rattle.state.specs.Desk.{Desk, desk, freshReader}
 use Rattle.state.specs.declared.word.Word.the-variants as W
-use Rattle.state.specs.declared.word.Word as State
+use Rattle.state.specs.declared.word.Word as Code
 use Rattle.calls.specs.Call as R
 use Rattle.reader.specs.Feed.{feedOf}
 use Rattle.calls.specs.Answer.{answerOf, endOf}
@@ -71,7 +71,7 @@ questionSeen n key signature q =
     pick (leb n (length q)) (event (question (record { message = take n q; signature = signature; keyNumber = key }))) more
 
 -- the word, with the signature, and the reader and the buffers after the call
-unfoldable pub wordSeen : State.Word → List ℕ → Desk → Word Question Told LastWord
+unfoldable pub wordSeen : Code.Word → List ℕ → Desk → Word Question Told LastWord
 wordSeen W.More signature d = more
 wordSeen (W.Question n key) signature d = questionSeen n key signature (d .question)
 wordSeen (W.Head status) signature d = event (message (headAccepted status (valueSeen d)))

@@ -1,6 +1,6 @@
 -- What one byte of a block's data does, and one of the CR LF after it (paper 01, "Blocks"): it is gathered, and what is whole with it
 -- is judged. In a state that no stream leads to, with a count past its buffer, it is refused as too long. Assumes nothing.
-use mathlib.Core.List.{List, [], _∷_}
+use mathlib.Core.List.{[], _∷_}
 use Prim.Native.Nat.{ℕ, _+_}
 use lib.Dec.{eqb, leb}
 use lib.ListN.{length, set, getD}

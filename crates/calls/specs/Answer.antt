@@ -4,24 +4,25 @@ use Prim.Native.Nat.{ℕ, _+_, min}
 use Rattle.blocks.specs.Place.{largest}
 use Rattle.blocks.specs.declared.offsets.BlockNumber.{BlockNumber}
 use Rattle.octets.specs.Choice.{pick}
-use Rattle.state.specs.Desk.{Desk, desk, pending, refuse}
-use Rattle.line_steps.specs.FirstLine.{announced}
-use Rattle.line_steps.specs.NextLine.{bodyWith, offsetNow}
+use Rattle.state.specs.Desk.{Desk, desk, readerAt, pending, refuse}
 use Rattle.state.specs.declared.phase.Phase.{Phase}
 use Rattle.state.specs.declared.phase.Phase.the-variants as P
 use Rattle.state.specs.declared.reader.Chain.{Chain}
 use Rattle.state.specs.declared.reader.Fixed.{Fixed}
 use Rattle.state.specs.declared.reader.Reader.{Reader}
 use Rattle.state.specs.declared.word.Word.the-variants as W
-use Rattle.calls.specs.Call.{Call, telling, unchanged, given, fits, isReading, readerAt, recalled}
+use Rattle.line_steps.specs.FirstLine.{announced}
+use Rattle.line_steps.specs.NextLine.{bodyWith, offsetNow}
+use Rattle.calls.specs.Call.{Call, telling, unchanged, given, fits, isReading, recalled}
 
 -- ---- the head's question
 
--- a head of n bytes is accepted, so that its signed values are handed out; the first chunk line follows
+-- a head of n bytes is accepted, so that its signed values are handed out
 abbrev pub acceptedFixed : Fixed → ℕ → Fixed
 acceptedFixed f n =
     record { accepted = n; status = f .status; «block_size» = f .«block_size»; key = f .key; id = f .id; «id_length» = f .«id_length» }
 
+-- and the first chunk line follows
 abbrev pub accepting : Reader → ℕ → Reader
 accepting r n = readerAt r (P.FirstLine 0) (acceptedFixed (r .fixed) n) (r .chain) (r .released)
 
@@ -38,6 +39,7 @@ headAnswer n d good =
 unfoldable pub following : BlockNumber → BlockNumber
 following i = record { 0 = min (i .0 + 1) largest }
 
+-- the chain once its block is released
 abbrev pub followed : Chain → Chain
 followed c = record { number = following (c .number); hash = c .hash }
 

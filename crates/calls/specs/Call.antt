@@ -6,11 +6,9 @@ use Prim.Native.Nat.{ℕ}
 use lib.Dec.{leb}
 use lib.ListN.{length}
 use Rattle.stream.specs.Limits.{headLimit, blockLimit}
-use Rattle.state.specs.Desk.{Desk, desk, Next, on, stop, noSignature}
+use Rattle.state.specs.Desk.{Desk, desk, readerAt, Next, on, stop, noSignature}
 use Rattle.state.specs.declared.phase.Phase.{Phase}
 use Rattle.state.specs.declared.phase.Phase.the-variants as P
-use Rattle.state.specs.declared.reader.Chain.{Chain}
-use Rattle.state.specs.declared.reader.Fixed.{Fixed}
 use Rattle.state.specs.declared.reader.Reader.{Reader}
 use Rattle.state.specs.declared.word.Word.{Word}
 use Rattle.state.specs.declared.word.Word.the-variants as W
@@ -62,11 +60,6 @@ isReading (P.BlockAsked size next) = false
 isReading (P.Trailer have total) = true
 isReading (P.Closed total) = false
 isReading (P.Refused n) = false
-
--- the same reader in another phase, with another head accepted, another chain, and so many bytes of the block buffer handed out
-abbrev pub readerAt : Reader → Phase → Fixed → Chain → ℕ → Reader
-readerAt r phase fixed chain released =
-    record { phase = phase; fixed = fixed; chain = chain; line = r .line; released = released }
 
 -- a block is handed out "until the next feed or end that isn't refused by 1 or 2"
 abbrev pub takingBack : Reader → Reader

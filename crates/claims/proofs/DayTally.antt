@@ -13,7 +13,7 @@ use Rattle.sections.specs.Calls.{Word, more, event, misused}
 use Rattle.sections.specs.Resuming.{entry, placed}
 use Rattle.stream.specs.Events.{Question, Release, headAccepted, block, LastWord, closed, refused}
 use Rattle.state.specs.Desk.{Desk, desk, freshReader}
-use Rattle.state.specs.declared.word.Word as State
+use Rattle.state.specs.declared.word.Word as Code
 use Rattle.state.specs.declared.word.Word.the-variants as W
 use Rattle.agreement.specs.Shown.{Told, outs}
 use Rattle.agreement.specs.Shown as S
@@ -46,7 +46,7 @@ question-counts : (t : Bool) (x : Question) → nothing ≡ wordTold (pick t (ev
 question-counts true x = refl
 question-counts false x = refl
 
-word-seen : (w : State.Word) (signature : List ℕ) (d : Desk) → wordCounts w ≡ wordTold (wordSeen w signature d)
+word-seen : (w : Code.Word) (signature : List ℕ) (d : Desk) → wordCounts w ≡ wordTold (wordSeen w signature d)
 unfolding wordCounts wordSeen
 word-seen W.More signature d = refl
 word-seen (W.Question n key) signature d = question-counts (leb n (length (d .question))) _
@@ -94,7 +94,7 @@ run-counted keys h b q ks =
 
 -- ---- of a day
 
-words-append : (ws vs : List State.Word) → wordsCount (ws ++ vs) ≡ together (wordsCount ws) (wordsCount vs)
+words-append : (ws vs : List Code.Word) → wordsCount (ws ++ vs) ≡ together (wordsCount ws) (wordsCount vs)
 unfolding wordsCount
 words-append [] vs = sym (nothing-together (wordsCount vs))
 words-append (w ∷ ws) vs = ap (together (wordCounts w)) (words-append ws vs) ∙ sym (together-assoc (wordCounts w) (wordsCount ws) (wordsCount vs))

@@ -13,11 +13,11 @@ use lib.ListN.{length}
 use Rattle.ring.specs.declared.KeyRing.{KeyRing}
 use Rattle.sections.specs.Calls.{Request, feed}
 use Rattle.stream.specs.Limits.{headLimit, blockLimit, ringLimit}
+use Rattle.handing.specs.Released.{blockPart}
 use Rattle.handing.proofs.ValueLaws.{room-small}
 use Rattle.state.specs.Desk.{Desk}
 use Rattle.calls.specs.Call.{isReading, unchanged}
 use Rattle.reader.specs.Feed.{feedOf}
-use Rattle.handing.specs.Released.{blockPart}
 use Rattle.agreement.specs.Due.{isDue, isInHead, isMisuse, Between}
 use Rattle.agreement.specs.Loans.{loanFits}
 use Rattle.agreement.specs.Run.{called, blockSeen, valueSeen}

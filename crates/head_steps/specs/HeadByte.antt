@@ -10,7 +10,7 @@ use Rattle.signing.specs.declared.judging.HeadAnswer.{HeadAnswer}
 use Rattle.signing.specs.declared.judging.HeadAnswer.the-variants as A
 use Rattle.stream.specs.Head.{isWholeHead}
 use Rattle.stream.specs.Ring.{Ring}
-use Rattle.state.specs.Desk.{Desk, desk, inPhase, Next, on, stop, refuse}
+use Rattle.state.specs.Desk.{Desk, desk, inPhase, readerAt, Next, on, stop, refuse}
 use Rattle.state.specs.declared.phase.Phase.the-variants as P
 use Rattle.state.specs.declared.reader.Fixed.{Fixed}
 use Rattle.state.specs.declared.reader.Reader.{Reader}
@@ -18,26 +18,19 @@ use Rattle.state.specs.declared.word.Word.the-variants as W
 
 -- the reader while its head's question is open: it keeps what the head of n bytes fixes
 abbrev pub asking : Reader → ℕ → Fixed → Reader
-asking r n fixed =
-    record {
-      phase = P.HeadAsked n;
-      fixed = fixed;
-      chain = record { number = record { 0 = 0 }; hash = r .chain .hash };
-      line = r .line;
-      released = r .released;
-    }
+asking r n fixed = readerAt r (P.HeadAsked n) fixed (record { number = record { 0 = 0 }; hash = r .chain .hash }) (r .released)
 
 -- what the head says; it is not accepted yet
-abbrev pub fixing : Reader → ℕ → ℕ → ℕ → List ℕ → ℕ → Fixed
-fixing r status size key id idLength =
-    record { accepted = r .fixed .accepted; status = status; «block_size» = size; key = key; id = id; «id_length» = idLength }
+abbrev pub fixing : Fixed → ℕ → ℕ → ℕ → List ℕ → ℕ → Fixed
+fixing f status size key id idLength =
+    record { accepted = f .accepted; status = status; «block_size» = size; key = key; id = id; «id_length» = idLength }
 
 -- the answer, with the signature, the id and the question buffer as judged
 unfoldable pub headAnswered : Desk → ℕ → HeadAnswer → List ℕ → List ℕ → Next
 headAnswered d n (A.Refused k) signature id = refuse k 0 d
 headAnswered d n (A.Asks status size key idLength length) signature id =
     stop (W.Question length key) signature
-    (desk (asking (d .reader) n (fixing (d .reader) status size key id idLength)) (d .head) (d .block) (d .question))
+    (desk (asking (d .reader) n (fixing (d .reader .fixed) status size key id idLength)) (d .head) (d .block) (d .question))
 
 -- the buffers after the judgement: a question is written, a refusal changes nothing
 abbrev pub judgedAt : Desk → ℕ → Judgement → Next

@@ -4,7 +4,6 @@ use head::HEAD_LIMIT;
 use ring::KeyRing;
 use signing::HeadAnswer;
 use signing::Judged;
-use state::Chain;
 use state::Fixed;
 use state::Phase;
 use state::Reader;
@@ -29,20 +28,13 @@ fn is_whole_head(text: &[u8]) -> bool
 fn asked(r: Reader, n: usize, fixed: Fixed) -> Reader
     ensures { λ s. ⌜ s ≡ asking r n fixed ⌝ }
 {
-    let before = r.chain;
-    let hash = before.hash;
-    let chain = Chain {
-        number: BlockNumber(0),
-        hash,
-    };
-    let line = r.line;
-    Reader {
-        phase: Phase::HeadAsked(n),
-        fixed,
-        chain,
-        line,
-        released: r.released,
-    }
+    let mut chain = r.chain;
+    let first = BlockNumber(0);
+    chain.number = first;
+    let mut reader = state::in_phase(r, Phase::HeadAsked(n));
+    reader.fixed = fixed;
+    reader.chain = chain;
+    reader
 }
 
 // Where the judgement of the head of n bytes leads. Nothing is pending, so that a refusal clears nothing.

@@ -604,7 +604,7 @@ blockRules =
     ++ (1_023 ∷ 1 ∷ 84 ∷ 0 ∷ 1_023 ∷ 3 ∷ 10 ∷ 2 ∷ 1_459 ∷ 4 ∷ 12 ∷ []))
     ∷ []
 
--- SHA-512, against another program and against FIPS 180-4's own example
+-- SHA-512, against another program and against FIPS 180-4's own examples
 pub hashes : List Row
 hashes =
     row 23 "the standard's first example" (sha512 (octets "abc"))

@@ -9,16 +9,16 @@ use Rattle.ring.specs.declared.KeyRing.{KeyRing}
 use Rattle.stream.specs.Limits.{ringLimit}
 use Rattle.stream.specs.Ring.{Ring}
 use Rattle.state.specs.Desk.{Desk, Next, stop, noSignature}
-use Rattle.line_steps.specs.FirstLine.{pushFirstLine}
-use Rattle.line_steps.specs.NextLine.{pushNextLine}
-use Rattle.body_steps.specs.Data.{pushData, pushDataEnd}
-use Rattle.body_steps.specs.Trailer.{pushTrailer}
 use Rattle.state.specs.Run.{Fed, more, event, runOf}
 use Rattle.state.specs.declared.phase.Phase.{Phase}
 use Rattle.state.specs.declared.phase.Phase.the-variants as P
 use Rattle.state.specs.declared.word.Word.the-variants as W
-use Rattle.calls.specs.Call.{Call, call, telling, unchanged, fits, isReading, recalled}
 use Rattle.head_steps.specs.HeadByte.{pushHead}
+use Rattle.line_steps.specs.FirstLine.{pushFirstLine}
+use Rattle.line_steps.specs.NextLine.{pushNextLine}
+use Rattle.body_steps.specs.Data.{pushData, pushDataEnd}
+use Rattle.body_steps.specs.Trailer.{pushTrailer}
+use Rattle.calls.specs.Call.{Call, call, telling, unchanged, fits, isReading, recalled}
 
 -- one byte, by the phase; a feed pushes none where a question is open or the last word is said
 unfoldable pub pushAt : Ring → Phase → Desk → ℕ → Next

@@ -8,4 +8,6 @@ pub use calls::end;
 pub use feeding::feed;
 pub use handing::block_part;
 pub use handing::field_part;
+pub use state::Reader;
+pub use state::Word;
 pub use state::fresh;

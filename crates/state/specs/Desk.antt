@@ -8,6 +8,7 @@ use Rattle.stream.specs.Limits.{idLimit, lineLimit}
 use Rattle.state.specs.declared.phase.Phase.{Phase}
 use Rattle.state.specs.declared.phase.Phase.the-variants as P
 use Rattle.state.specs.declared.reader.Chain.{Chain}
+use Rattle.state.specs.declared.reader.Fixed.{Fixed}
 use Rattle.state.specs.declared.reader.Reader.{Reader}
 use Rattle.state.specs.declared.stepped.Stepped.{Stepped}
 use Rattle.state.specs.declared.word.Word.{Word}
@@ -39,9 +40,17 @@ freshReader =
 
 -- ---- the reader changed
 
+-- its parts put together
+abbrev pub assembled : Phase → Fixed → Chain → List ℕ → ℕ → Reader
+assembled p fixed chain line released = record { phase = p; fixed = fixed; chain = chain; line = line; released = released }
+
 -- the same reader with another phase, line and chain
 abbrev pub renewed : Reader → Phase → List ℕ → Chain → Reader
-renewed r p line chain = record { phase = p; fixed = r .fixed; chain = chain; line = line; released = r .released }
+renewed r p line chain = assembled p (r .fixed) chain line (r .released)
+
+-- the same line under way; all else may be another
+abbrev pub readerAt : Reader → Phase → Fixed → Chain → ℕ → Reader
+readerAt r p fixed chain released = assembled p fixed chain (r .line) released
 
 abbrev pub inPhase : Reader → Phase → Reader
 inPhase r p = renewed r p (r .line) (r .chain)

@@ -1,0 +1,13 @@
+-- The reader with its phase and two parts changed. Assumes nothing.
+use borrow.Author.Needs.{needs}
+use Rattle.head_steps.proofs.asked.Statement.{statement}
+use Rattle.head_steps.proofs.asked.Tie as tie
+
+in-phase-requires : tie.Need-in-phase-requires
+in-phase-requires c κs = search needs
+
+returns : tie.Need-returns
+returns c = rw (c .in-phase .ensures)
+
+pub asked-spec : {M : Type 1} → statement M
+asked-spec = tie.close (tie.spec in-phase-requires returns)
