@@ -13,7 +13,7 @@ use Rattle.stream.specs.Events.{Question, Release, LastWord}
 use Rattle.stream.specs.Lines.{Field}
 use Rattle.stream.specs.Ring.{Ring}
 use Rattle.stream.specs.Stream.{Context, rules}
-use Rattle.state.specs.Desk.{Desk, Next}
+use Rattle.state.specs.Configuration.{Configuration, Next}
 use Rattle.state.specs.Run.{Fed, runOf}
 use Rattle.state.specs.Run as Run
 use Rattle.state.specs.declared.phase.Phase.{Phase}
@@ -30,14 +30,14 @@ use Rattle.agreement.proofs.HeadSteps.{head-step}
 
 -- what a piece does, with t bytes taken before it
 pub data FedAs (ring : Ring) (fields : List Field) (t : ℕ) : Fed → Turn Context Question Release LastWord → Type 0 where
-  all : {d : Desk} {c : Context} {g : List ℕ} {m n : ℕ} → m ≡ t + n → Reads ring fields d (running c g)
+  all : {d : Configuration} {c : Context} {g : List ℕ} {m n : ℕ} → m ≡ t + n → Reads ring fields d (running c g)
       → FedAs ring fields t (Run.more m d) ((S.more, n), running c g)
-  upTo : {d : Desk} {s : Standing} {w : Code.Word} {signature : List ℕ} {e : Event Question Release LastWord} {m n : ℕ} → m ≡ t + n
+  upTo : {d : Configuration} {s : Standing} {w : Code.Word} {signature : List ℕ} {e : Event Question Release LastWord} {m n : ℕ} → m ≡ t + n
       → wordSeen w signature d ≡ event (toldEvent e) → isRelease e ≡ false → Reads ring fields d s
       → FedAs ring fields t (Run.event w signature m d) ((event e, n), s)
 
 module _ (ring : Ring) (fields : List Field) where
-  byte-at : (d : Desk) (x : ℕ) (p : Phase) {c : Context} {g : List ℕ} → Lent d fields → d .reader .released ≡ 0 → At ring d p (running c g)
+  byte-at : (d : Configuration) (x : ℕ) (p : Phase) {c : Context} {g : List ℕ} → Lent d fields → d .reader .released ≡ 0 → At ring d p (running c g)
       → Follows ring fields (pushAt ring p d x) (step (rules ring) c g x)
   unfolding pushAt
   byte-at d x p l z (F.head {n} {g} early a e) = head-step ring fields d x l z early n g a e
@@ -52,7 +52,7 @@ module _ (ring : Ring) (fields : List Field) where
   one-more t f o (upTo {m} {n} e w q r) = upTo {m = m} {n = suc n} (omega (arith, e)) w q r
 
   -- A PIECE
-  pub piece-follows : (piece : List ℕ) (t : ℕ) (d : Desk) {c : Context} {g : List ℕ} → Reads ring fields d (running c g)
+  pub piece-follows : (piece : List ℕ) (t : ℕ) (d : Configuration) {c : Context} {g : List ℕ} → Reads ring fields d (running c g)
       → FedAs ring fields t (runOf (pushByte ring) d t piece) (M.fed (rules ring) c g piece)
   unfolding runOf M.fed
   piece-follows [] t d r = all {m = t} {n = 0} (omega arith) r
@@ -60,7 +60,7 @@ module _ (ring : Ring) (fields : List Field) where
       by (byte-at d x (d .reader .phase) (r .lent) (r .taken) (r .stands)) (λ d′ c g r′. piece-follows xs (t + 1) d′ r′)
     where
       by : {n : Next} {m : Step Context Question Release LastWord} → Follows ring fields n m
-          → ((d′ : Desk) (c : Context) (g : List ℕ) → Reads ring fields d′ (running c g)
+          → ((d′ : Configuration) (c : Context) (g : List ℕ) → Reads ring fields d′ (running c g)
           → FedAs ring fields (t + 1) (runOf (pushByte ring) d′ (t + 1) xs) (M.fed (rules ring) c g xs))
           → FedAs ring fields t (Run.follow n (t + 1) (λ d′. runOf (pushByte ring) d′ (t + 1) xs)) (M.follow m (λ c g. M.fed (rules ring) c g xs))
       by (F.on {d = d′} {c} {g} r′) ih = one-more t _ _ (ih d′ c g r′)

@@ -22,16 +22,16 @@ use Rattle.stream.specs.Stream.{Show, Past, after, Context, rules, blockOffset,
 use Rattle.stream.specs.Stream as C
 use Rattle.stream.proofs.Sound.{not-whole-empty}
 use Rattle.handing.proofs.ValueLaws.{handed-signed}
-use Rattle.state.specs.Desk.{Desk, desk, pending, refuse}
+use Rattle.state.specs.Configuration.{Configuration, configuration, pending, refuse}
 use Rattle.line_steps.specs.NextLine as Line
 use Rattle.state.specs.Run.{Fed}
 use Rattle.state.specs.declared.phase.Phase.{Phase}
 use Rattle.state.proofs.BufferLaws.{length-cleared}
-use Rattle.calls.specs.Call.{given, isReading, unchanged, recalled}
+use Rattle.calls.specs.Response.{given, isReading, unchanged, recalled}
 use Rattle.reader.specs.Feed.{fed, takenFrom}
 use Rattle.calls.specs.Answer.{accepting, answerAt, blockAnswer, followed, following, headAnswer, releasing}
 use Rattle.handing.specs.Released.{blockPart}
-use Rattle.agreement.specs.Shown as Shown
+use Rattle.agreement.specs.Observation as Shown
 use Rattle.agreement.specs.Plain.{blockLeft, Handed, handedAfter}
 use Rattle.agreement.specs.Run.{wordSeen}
 use Rattle.agreement.proofs.Stands.{Counts, Lent, Standing, At, HeadAsked, BlockAsked, Reads, isRelease}
@@ -45,13 +45,13 @@ use Rattle.agreement.proofs.Bytes as B
 use Rattle.agreement.proofs.Holds.{Holds, CallFollows, part-is, follows, unchanged-follows, reading-phase, asked-phase, finished-phase, stands-back}
 
 -- while bytes are taken no block is handed out
-quiet-holds : {ring : Ring} {fields : List Field} {d : Desk} {s : Standing} → Reads ring fields d s → Holds ring d (record { released = []; signed = fields }) s
+quiet-holds : {ring : Ring} {fields : List Field} {d : Configuration} {s : Standing} → Reads ring fields d s → Holds ring d (record { released = []; signed = fields }) s
 quiet-holds r = record { stands = r .stands; lent = r .lent; block = rw (r .taken) refl }
 
 module _ (ring : Ring) (h : Handed) where
   -- ---- a feed
 
-  event-holds : {d : Desk} {s : Standing} (piece : List ℕ) (e : Event Question Release LastWord) → isRelease e ≡ false → Reads ring (h .signed) d s
+  event-holds : {d : Configuration} {s : Standing} (piece : List ℕ) (e : Event Question Release LastWord) → isRelease e ≡ false → Reads ring (h .signed) d s
       → Holds ring d (handedAfter h (feed piece) (event e)) s
   event-holds piece (question q) z r = quiet-holds r
   event-holds piece (message e) z r = absurd (true≢false z)
@@ -63,7 +63,7 @@ module _ (ring : Ring) (h : Handed) where
   fed-follows piece (B.all {n} e r) = follows _ more n _ (quiet-holds r) refl (e ∙ zero-add n)
   fed-follows piece (B.upTo {e = x} {n} e w z r) = follows _ (event x) n _ (event-holds piece x z r) w (e ∙ zero-add n)
 
-  pub feed-follows : (d : Desk) (s : Standing) (piece : List ℕ) → Holds ring d h s
+  pub feed-follows : (d : Configuration) (s : Standing) (piece : List ℕ) → Holds ring d h s
       → CallFollows ring h (feed piece) (pick (isReading (d .reader .phase)) (takenFrom ring (recalled d) piece) (unchanged 1 d)) (respond (rules ring) s (feed piece))
   unfolding takenFrom respond
   feed-follows d (running c g) piece k =
@@ -77,7 +77,7 @@ module _ (ring : Ring) (h : Handed) where
   -- ---- the end
 
   -- a refusal with no block handed out
-  refused-follows : (r : Request) (n count : ℕ) (d : Desk) → 3 ≤ n → Lent d (h .signed) → d .reader .released ≡ 0 → blockLeft r (h .released) ≡ []
+  refused-follows : (r : Request) (n count : ℕ) (d : Configuration) → 3 ≤ n → Lent d (h .signed) → d .reader .released ≡ 0 → blockLeft r (h .released) ≡ []
       → CallFollows ring h r (given 0 (refuse n count d)) ((event (last (E.refused n)), 0), finished)
   unfolding refuse
   refused-follows r n count d m l z e =
@@ -85,7 +85,7 @@ module _ (ring : Ring) (h : Handed) where
       (record { stands = F.refused; lent = still l _ refl refl (length-cleared count (d .block)) refl refl; block = rw (z, e) refl })
       (seen-final n _ _ m) refl
 
-  pub end-follows : (d : Desk) (s : Standing) → Holds ring d h s
+  pub end-follows : (d : Configuration) (s : Standing) → Holds ring d h s
       → CallFollows ring h end (pick (isReading (d .reader .phase)) (given 0 (refuse 11 (pending (d .reader .phase)) (recalled d))) (unchanged 1 d)) (respond (rules ring) s end)
   unfolding respond rules
   end-follows d (running c g) k =
@@ -95,16 +95,16 @@ module _ (ring : Ring) (h : Handed) where
   end-follows d finished k = rw (finished-phase (k .stands)) (unchanged-follows 1 d finished refl k)
 
   -- with no block handed out, nothing is
-  none-out : {d : Desk} {s : Standing} → Holds ring d h s → d .reader .released ≡ 0 → h .released ≡ []
+  none-out : {d : Configuration} {s : Standing} → Holds ring d h s → d .reader .released ≡ 0 → h .released ≡ []
   none-out k z = sym (rw z at (k .block))
 
   -- ---- an answer to the head's question
 
-  module _ (d : Desk) (n : ℕ) (l : List ℕ) (lent : Lent d (h .signed)) (a : HeadAsked ring d n l) (none : h .released ≡ []) where
+  module _ (d : Configuration) (n : ℕ) (l : List ℕ) (lent : Lent d (h .signed)) (a : HeadAsked ring d n l) (none : h .released ≡ []) where
     within : n ≤ length (d .head)
     within = rw (← a .bytes .count, ← a .bytes .bytes, length-take) (omega arith)
 
-    accepted-holds : Holds ring (desk (accepting (d .reader) n) (d .head) (d .block) (d .question)) (record { released = h .released; signed = signedOf (headOf l) }) (running (C.firstLine (showOf ring (headOf l))) [])
+    accepted-holds : Holds ring (configuration (accepting (d .reader) n) (d .head) (d .block) (d .question)) (record { released = h .released; signed = signedOf (headOf l) }) (running (C.firstLine (showOf ring (headOf l))) [])
     accepted-holds =
         record {
           stands =
@@ -131,7 +131,7 @@ module _ (ring : Ring) (h : Handed) where
 
   -- ---- an answer to a block's question
 
-  module _ (d : Desk) (s : Show) (p : Past) (size next : ℕ) (b : List ℕ) (lent : Lent d (h .signed)) (a : BlockAsked ring d s p size next b) (none : h .released ≡ []) where
+  module _ (d : Configuration) (s : Show) (p : Past) (size next : ℕ) (b : List ℕ) (lent : Lent d (h .signed)) (a : BlockAsked ring d s p size next b) (none : h .released ≡ []) where
     counts : Counts (followed (d .reader .chain)) (after p b)
     unfolding releasing following
     counts =
@@ -143,7 +143,7 @@ module _ (ring : Ring) (h : Handed) where
     abbrev handed : Handed
     handed = record { released = b; signed = h .signed }
 
-    released-holds : Holds ring (desk (releasing (d .reader) size next) (d .head) (d .block) (d .question)) handed (running (C.announced s (after p b) (bodyWith s p b) next) [])
+    released-holds : Holds ring (configuration (releasing (d .reader) size next) (d .head) (d .block) (d .question)) handed (running (C.announced s (after p b) (bodyWith s p b) next) [])
     unfolding releasing
     released-holds =
         let e : Line.bodyWith (d .reader) size ≡ bodyWith s p b = body-now (d .reader) s p b size (a .bytes .count) (a .keeps) (a .blocks) (a .sound) in
@@ -164,7 +164,7 @@ module _ (ring : Ring) (h : Handed) where
 
   -- ---- any answer
 
-  pub answer-follows : (d : Desk) (p : Phase) (s : Standing) (good : Bool) → Holds ring d h s → At ring d p s
+  pub answer-follows : (d : Configuration) (p : Phase) (s : Standing) (good : Bool) → Holds ring d h s → At ring d p s
       → CallFollows ring h (answer good) (answerAt p d good) (respond (rules ring) s (answer good))
   unfolding answerAt respond
   answer-follows d p (asked y) good k (F.headAsked {n} {l} a) = head-answer-follows d n l (k .lent) a (none-out k (a .taken)) good

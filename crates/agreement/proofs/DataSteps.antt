@@ -10,7 +10,7 @@ use lib.ListN.{length, set, getD, length-set}
 use lib.Seq.{take-suc}
 use Rattle.octets.specs.Choice.{pick}
 use Rattle.sections.specs.Reading.{go, stop}
-use Rattle.sections.specs.Machine.{rule, gathered, step}
+use Rattle.sections.specs.Machine.{ruling, gathered, step}
 use Rattle.stream.specs.Bytes.{same}
 use Rattle.stream.specs.Events.{refused}
 use Rattle.stream.specs.Lines.{Field, crlf}
@@ -18,7 +18,7 @@ use Rattle.stream.specs.Ring.{Ring}
 use Rattle.stream.specs.Stream.{Show, Past, isWhole, judge, judgeDataEnd, rules}
 use Rattle.stream.specs.Stream as C
 use Rattle.stream.proofs.Sound.{SoundBlock, not-whole-empty}
-use Rattle.state.specs.Desk.{Desk, desk, inPhase, on, moved, refuse}
+use Rattle.state.specs.Configuration.{Configuration, configuration, inPhase, on, moved, refuse}
 use Rattle.body_steps.specs.Data.{pushData, pushDataEnd}
 use Rattle.state.specs.declared.phase.Phase.{Phase}
 use Rattle.state.specs.declared.phase.Phase.the-variants as P
@@ -27,12 +27,12 @@ use Rattle.agreement.proofs.Stands as F
 use Rattle.agreement.proofs.Gathering.{none-gathered, gather, short, still, under-on}
 use Rattle.agreement.proofs.Refusals.{refuses}
 
-module _ (ring : Ring) (fields : List Field) (d : Desk) (x : ℕ) (lent : Lent d fields) (none : d .reader .released ≡ 0) (s : Show) (p : Past) where
+module _ (ring : Ring) (fields : List Field) (d : Configuration) (x : ℕ) (lent : Lent d fields) (none : d .reader .released ≡ 0) (s : Show) (p : Past) where
   -- ---- data
 
   module _ (have size : ℕ) (g : List ℕ) (k : Keeps (d .reader .fixed) s) (c : Counts (d .reader .chain) p) (sound : SoundBlock s p size) where
-    abbrev filled : Phase → Desk
-    filled q = desk (inPhase (d .reader) q) (d .head) (set (d .block) have x) (d .question)
+    abbrev filled : Phase → Configuration
+    filled q = configuration (inPhase (d .reader) q) (d .head) (set (d .block) have x) (d .question)
 
     data-by : (t : Bool) → leb size (have + 1) ≡ t → have < size → length (g ++ x ∷ []) ≡ have + 1 → Gathered (set (d .block) have x) (have + 1) (g ++ x ∷ [])
         → Follows ring fields (on (filled (pick t (P.DataEnd 0 size) (P.Data (have + 1) size)))) (gathered (rules ring) t (C.blockData s p size) (g ++ x ∷ []))
@@ -69,7 +69,7 @@ module _ (ring : Ring) (fields : List Field) (d : Desk) (x : ℕ) (lent : Lent d
 
   module _ (size : ℕ) (b : List ℕ) (u : Under d s p size b) where
     end-by : (t : Bool) → Follows ring fields (pick t (on (moved d (P.NextLine 0 size))) (refuse 6 size d))
-        (rule (elim t [ true ↦ go (C.nextLine s p b) | false ↦ stop (refused 6) ]))
+        (ruling (elim t [ true ↦ go (C.nextLine s p b) | false ↦ stop (refused 6) ]))
     unfolding isWhole
     end-by true =
         F.on

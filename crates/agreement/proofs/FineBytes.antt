@@ -19,7 +19,7 @@ use Rattle.stream.specs.Ring.{Ring, numberOf}
 use Rattle.stream.specs.Trailer.{isWholeTrailer, isTrailer}
 use Rattle.signing.specs.Judgement.{headJudged, noneAsked, judged}
 use Rattle.signing.specs.Judgement as J
-use Rattle.state.specs.Desk.{Desk, desk, inPhase, Next, on, stop, refuse}
+use Rattle.state.specs.Configuration.{Configuration, configuration, inPhase, Next, on, stop, refuse}
 use Rattle.line_steps.specs.FirstLine.{firstAnswered, firstGathered, pushFirstLine}
 use Rattle.line_steps.specs.NextLine.{nextJudged, nextAnswered, nextGathered, pushNextLine}
 use Rattle.body_steps.specs.Data.{pushData, pushDataEnd}
@@ -28,7 +28,7 @@ use Rattle.line_steps.specs.NextLine as Line
 use Rattle.state.specs.Run.{follow, runOf}
 use Rattle.state.specs.declared.phase.Phase.{Phase}
 use Rattle.state.specs.declared.phase.Phase.the-variants as P
-use Rattle.calls.specs.Call.{isReading}
+use Rattle.calls.specs.Response.{isReading}
 use Rattle.head_steps.specs.HeadByte.{headAnswered, judgedAt, headGathered, pushHead}
 use Rattle.reader.specs.Feed.{pushAt, pushByte, fed}
 use Rattle.agreement.proofs.Refusals.{line-number, head-number, of-stream}
@@ -43,7 +43,7 @@ fine-pick : (t : Bool) (m n : Next) → Fine m → Fine n → Fine (pick t m n)
 fine-pick true m n a b = a
 fine-pick false m n a b = b
 
-pub fine-refuse : (n count : ℕ) (d : Desk) → 3 ≤ n → Fine (refuse n count d)
+pub fine-refuse : (n count : ℕ) (d : Configuration) → 3 ≤ n → Fine (refuse n count d)
 unfolding refuse
 fine-refuse n count d h = of-stream n h
 
@@ -51,44 +51,44 @@ fine-picked : (t : Bool) (p q : Phase) → isReading p ≡ true → isReading q 
 fine-picked true p q a b = a
 fine-picked false p q a b = b
 
-fine-data : (d : Desk) (have size x : ℕ) → Fine (pushData d have size x)
+fine-data : (d : Configuration) (have size x : ℕ) → Fine (pushData d have size x)
 unfolding pushData
 fine-data d have size x =
     fine-pick (leb (length (d .block)) have) _ _ (fine-refuse 6 have d (omega arith))
     (fine-picked (leb size (have + 1)) (P.DataEnd 0 size) (P.Data (have + 1) size) refl refl)
 
-fine-end : (d : Desk) (have size x : ℕ) → Fine (pushDataEnd d have size x)
+fine-end : (d : Configuration) (have size x : ℕ) → Fine (pushDataEnd d have size x)
 unfolding pushDataEnd
 fine-end d have size x =
     fine-pick (eqb have 0) _ _ refl (fine-pick (same (getD (d .reader .line) 0 0 ∷ x ∷ []) crlf) _ _ refl (fine-refuse 6 size d (omega arith)))
 
 -- a line's refusal has a number of the rules
-fine-first : (d : Desk) (N : ℕ) (l signature : List ℕ) (fault : ℕ) → lineFault N false true 0 l ≡ fault
+fine-first : (d : Configuration) (N : ℕ) (l signature : List ℕ) (fault : ℕ) → lineFault N false true 0 l ≡ fault
     → Fine (firstAnswered d (unlessFault fault (goodLine (chunkSize l) signature) .answer))
 unfolding firstAnswered
 fine-first d N l signature zero e = fine-picked (eqb (chunkSize l) 0) (P.Trailer 0 0) (P.Data 0 (chunkSize l)) refl refl
 fine-first d N l signature (suc n) e = fine-refuse (suc n) 0 d (line-number N false true 0 l n e)
 
-fine-first-line : (d : Desk) (have x : ℕ) → Fine (pushFirstLine d have x)
+fine-first-line : (d : Configuration) (have x : ℕ) → Fine (pushFirstLine d have x)
 unfolding pushFirstLine firstGathered lineJudged
 fine-first-line d have x =
     fine-pick (leb lineLimit have) _ _ (fine-refuse 6 0 d (omega arith))
     (fine-pick (isWholeLine (take (have + 1) (set (d .reader .line) have x))) _ _ (fine-first _ (d .reader .fixed .«block_size») _ _ _ refl) refl)
 
-fine-next : (d : Desk) (size N : ℕ) (full : Bool) (sofar : ℕ) (l signature signature′ : List ℕ) (fault : ℕ) → lineFault N true full sofar l ≡ fault
+fine-next : (d : Configuration) (size N : ℕ) (full : Bool) (sofar : ℕ) (l signature signature′ : List ℕ) (fault : ℕ) → lineFault N true full sofar l ≡ fault
     → Fine (nextAnswered d size (unlessFault fault (goodLine (chunkSize l) signature) .answer) signature′)
 unfolding nextAnswered Line.asked
 fine-next d size N full sofar l signature signature′ zero e = refl
 fine-next d size N full sofar l signature signature′ (suc n) e = fine-refuse (suc n) size d (line-number N true full sofar l n e)
 
-fine-next-line : (d : Desk) (have size x : ℕ) → Fine (pushNextLine d have size x)
+fine-next-line : (d : Configuration) (have size x : ℕ) → Fine (pushNextLine d have size x)
 unfolding pushNextLine nextGathered nextJudged lineJudged
 fine-next-line d have size x =
     fine-pick (leb lineLimit have) _ _ (fine-refuse 6 size d (omega arith))
     (fine-pick (isWholeLine (take (have + 1) (set (d .reader .line) have x))) _ _
     (fine-next _ size (d .reader .fixed .«block_size») (eqb size (d .reader .fixed .«block_size»)) _ _ _ _ _ refl) refl)
 
-fine-trailer : (d : Desk) (have total x : ℕ) → Fine (pushTrailer d have total x)
+fine-trailer : (d : Configuration) (have total x : ℕ) → Fine (pushTrailer d have total x)
 unfolding pushTrailer trailerGathered
 fine-trailer d have total x =
     let text = take (have + 1) (set (d .block) have x) in
@@ -96,7 +96,7 @@ fine-trailer d have total x =
     (fine-pick (isWholeTrailer text) _ _ (fine-pick (isTrailer text) _ _ refl (fine-refuse 6 (have + 1) _ (omega arith))) refl)
 
 -- a head's refusal too
-fine-judged : (d : Desk) (n : ℕ) (ring : Ring) (l q : List ℕ) → Fine (judgedAt d n (headJudged ring l q))
+fine-judged : (d : Configuration) (n : ℕ) (ring : Ring) (l q : List ℕ) → Fine (judgedAt d n (headJudged ring l q))
 unfolding headJudged headAnswered J.asked
 fine-judged d n ring l q = by (headFault ring l) refl
   where
@@ -113,13 +113,13 @@ fine-judged d n ring l q = by (headFault ring l) refl
     by zero e = room (leb (length l) (length q))
     by (suc k) e = rw (ne-eqb (suc k) 0 (λ x. omega arith)) (fine-refuse (suc k) 0 _ (head-number ring l k e))
 
-fine-head : (ring : Ring) (d : Desk) (have x : ℕ) → Fine (pushHead ring d have x)
+fine-head : (ring : Ring) (d : Configuration) (have x : ℕ) → Fine (pushHead ring d have x)
 unfolding pushHead headGathered
 fine-head ring d have x =
     fine-pick (leb (length (d .head)) have) _ _ (fine-refuse 3 0 d (omega arith))
-    (fine-pick (isWholeHead (take (have + 1) (set (d .head) have x))) _ _ (fine-judged (desk (inPhase (d .reader) (P.Head (have + 1))) (set (d .head) have x) (d .block) (d .question)) (have + 1) ring _ (d .question)) refl)
+    (fine-pick (isWholeHead (take (have + 1) (set (d .head) have x))) _ _ (fine-judged (configuration (inPhase (d .reader) (P.Head (have + 1))) (set (d .head) have x) (d .block) (d .question)) (have + 1) ring _ (d .question)) refl)
 
-fine-push : (ring : Ring) (d : Desk) (p : Phase) (x : ℕ) → isReading p ≡ true → Fine (pushAt ring p d x)
+fine-push : (ring : Ring) (d : Configuration) (p : Phase) (x : ℕ) → isReading p ≡ true → Fine (pushAt ring p d x)
 unfolding pushAt
 fine-push ring d (P.Head have) x e = fine-head ring d have x
 fine-push ring d (P.HeadAsked n) x e = absurd (true≢false (sym e))
@@ -132,12 +132,12 @@ fine-push ring d (P.Trailer have total) x e = fine-trailer d have total x
 fine-push ring d (P.Closed total) x e = absurd (true≢false (sym e))
 fine-push ring d (P.Refused n) x e = absurd (true≢false (sym e))
 
-pub fine-run : (ring : Ring) (d : Desk) (t : ℕ) (xs : List ℕ) → isReading (d .reader .phase) ≡ true → isMisuse (fed (runOf (pushByte ring) d t xs) .word) ≡ false
+pub fine-run : (ring : Ring) (d : Configuration) (t : ℕ) (xs : List ℕ) → isReading (d .reader .phase) ≡ true → isMisuse (fed (runOf (pushByte ring) d t xs) .word) ≡ false
 unfolding runOf
 fine-run ring d t [] e = refl
 fine-run ring d t (x ∷ xs) e = by (pushByte ring d x) (fine-push ring d (d .reader .phase) x e) (λ d′. fine-run ring d′ (t + 1) xs)
   where
-    by : (n : Next) → Fine n → ((d′ : Desk) → isReading (d′ .reader .phase) ≡ true → isMisuse (fed (runOf (pushByte ring) d′ (t + 1) xs) .word) ≡ false)
+    by : (n : Next) → Fine n → ((d′ : Configuration) → isReading (d′ .reader .phase) ≡ true → isMisuse (fed (runOf (pushByte ring) d′ (t + 1) xs) .word) ≡ false)
         → isMisuse (fed (follow n (t + 1) (λ d′. runOf (pushByte ring) d′ (t + 1) xs)) .word) ≡ false
     by (on d′) f ih = ih d′ f
     by (stop w signature d′) f ih = f

@@ -12,7 +12,7 @@ use lib.Seq.{take-suc-set}
 use Rattle.stream.specs.Lines.{Field}
 use Rattle.stream.specs.Stream.{Show, Past, Context, isWhole}
 use Rattle.stream.proofs.Sound.{limitOf, whole-at-limit}
-use Rattle.state.specs.Desk.{Desk, renewed}
+use Rattle.state.specs.Configuration.{Configuration, renewed}
 use Rattle.state.specs.declared.phase.Phase.{Phase}
 use Rattle.agreement.proofs.Stands.{Gathered, Lent, Under}
 
@@ -40,7 +40,7 @@ pub at-most : (c : Context) (g : List ℕ) (x : ℕ) → isWhole c g ≡ false �
 at-most c g x e = rw (length-append g (x ∷ [])) (omega (arith, short c g e))
 
 -- another desk with the same head, and buffers of the same lengths
-pub still : {d : Desk} {fields : List Field} → Lent d fields → (d′ : Desk) → d′ .head ≡ d .head → d′ .reader .fixed .accepted ≡ d .reader .fixed .accepted
+pub still : {d : Configuration} {fields : List Field} → Lent d fields → (d′ : Configuration) → d′ .head ≡ d .head → d′ .reader .fixed .accepted ≡ d .reader .fixed .accepted
     → length (d′ .block) ≡ length (d .block) → length (d′ .question) ≡ length (d .question) → length (d′ .reader .line) ≡ length (d .reader .line)
     → Lent d′ fields
 still l d′ h a b q n =
@@ -53,7 +53,7 @@ still l d′ h a b q n =
     }
 
 -- the block under way, of which no byte changes
-pub under-on : {d : Desk} {s : Show} {past : Past} {size : ℕ} {b : List ℕ} (p : Phase) (line : List ℕ) (d′ : Desk)
+pub under-on : {d : Configuration} {s : Show} {past : Past} {size : ℕ} {b : List ℕ} (p : Phase) (line : List ℕ) (d′ : Configuration)
     → d′ .reader ≡ renewed (d .reader) p line (d .reader .chain) → d′ .block ≡ d .block → Under d s past size b → Under d′ s past size b
 under-on {d} p line d′ e f u =
     record {

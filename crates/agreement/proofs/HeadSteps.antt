@@ -11,7 +11,7 @@ use lib.Seq.{take-append-seam}
 use Rattle.octets.specs.Choice.{pick}
 use Rattle.sections.specs.Reading.{question}
 use Rattle.sections.specs.Calls.{event}
-use Rattle.sections.specs.Machine.{rule, gathered, step}
+use Rattle.sections.specs.Machine.{ruling, gathered, step}
 use Rattle.params.specs.Injection.{padded}
 use Rattle.stream.specs.Head.{headOf, statusDigits, injectionId, blockSize, headSignature, signingString, trustedBy, headFault, isWholeHead}
 use Rattle.stream.specs.Limits.{headLimit, idLimit}
@@ -25,7 +25,7 @@ use Rattle.stream.proofs.SoundJudge.{SoundSays, judge-sound}
 use Rattle.handing.proofs.ValueLaws.{handed-none}
 use Rattle.signing.specs.Judgement.{headJudged, noneAsked, judged}
 use Rattle.signing.specs.Judgement as J
-use Rattle.state.specs.Desk.{Desk, desk, inPhase, on}
+use Rattle.state.specs.Configuration.{Configuration, configuration, inPhase, on}
 use Rattle.state.specs.declared.phase.Phase.the-variants as P
 use Rattle.state.specs.declared.reader.Reader.{Reader}
 use Rattle.state.specs.declared.word.Word.the-variants as W
@@ -37,13 +37,13 @@ use Rattle.agreement.proofs.Gathering.{gather, short, at-most, still}
 use Rattle.agreement.proofs.NextSteps.{front-length}
 use Rattle.agreement.proofs.Refusals.{refuses, head-number}
 
-module _ (ring : Ring) (fields : List Field) (d : Desk) (x : ℕ) (lent : Lent d fields) (none : d .reader .released ≡ 0)
+module _ (ring : Ring) (fields : List Field) (d : Configuration) (x : ℕ) (lent : Lent d fields) (none : d .reader .released ≡ 0)
     (early : d .reader .fixed .accepted ≡ 0) (have : ℕ) (g : List ℕ) where
   abbrev l : List ℕ
   l = g ++ x ∷ []
 
-  abbrev d′ : Desk
-  d′ = desk (inPhase (d .reader) (P.Head (have + 1))) (set (d .head) have x) (d .block) (d .question)
+  abbrev d′ : Configuration
+  d′ = configuration (inPhase (d .reader) (P.Head (have + 1))) (set (d .head) have x) (d .block) (d .question)
 
   -- no head was accepted, so nothing of it is handed out
   lent′ : Lent d′ fields
@@ -61,7 +61,7 @@ module _ (ring : Ring) (fields : List Field) (d : Desk) (x : ℕ) (lent : Lent d
   abbrev message : List ℕ
   message = signingString (headOf l)
 
-  seen-is : (e : Desk) → length message ≤ length (d .question) → e .question ≡ message ++ drop (length message) (d .question)
+  seen-is : (e : Configuration) → length message ≤ length (d .question) → e .question ≡ message ++ drop (length message) (d .question)
       → wordSeen (W.Question (length message) (numberOf (trustedBy ring (headOf l)))) (headSignature (headOf l)) e ≡ event (question (headQuestion ring (headOf l)))
   unfolding wordSeen headQuestion showOf
   seen-is e f q = rw (q, front-length message (d .question) f, le-leb (length message) (length (d .question)) f, take-append-seam message (drop (length message) (d .question)))
@@ -77,7 +77,7 @@ module _ (ring : Ring) (fields : List Field) (d : Desk) (x : ℕ) (lent : Lent d
   kept = record { id = take-append-seam (injectionId (headOf l)) _; size = refl; key = refl }
 
   question-follows : headFault ring l ≡ 0 → length l ≤ length (d .question) → SoundSays (acceptHead ring (headOf l)) → Gathered (set (d .head) have x) (have + 1) l
-      → Follows ring fields (judgedAt d′ (have + 1) (J.asked (numberOf (trustedBy ring (headOf l))) (headOf l) (d .question))) (rule (acceptHead ring (headOf l)))
+      → Follows ring fields (judgedAt d′ (have + 1) (J.asked (numberOf (trustedBy ring (headOf l))) (headOf l) (d .question))) (ruling (acceptHead ring (headOf l)))
   unfolding headAnswered J.asked acceptHead
   question-follows e m h a =
       F.says (seen-is _ (omega (arith, signing-fits ring l e)) refl) refl
@@ -104,7 +104,7 @@ module _ (ring : Ring) (fields : List Field) (d : Desk) (x : ℕ) (lent : Lent d
       (pick (eqb fault 0)
       (pick (leb (length l) (length (d .question))) (J.asked (numberOf (trustedBy ring (headOf l))) (headOf l) (d .question)) (judged (noneAsked 3) (d .question)))
       (judged (noneAsked fault) (d .question))))
-      (rule (unlessBroken fault (acceptHead ring (headOf l))))
+      (ruling (unlessBroken fault (acceptHead ring (headOf l))))
   unfolding headAnswered
   answered zero e h m a = rw (le-leb (length l) (length (d .question)) m) (question-follows e m h a)
   answered (suc n) e h m a = rw (ne-eqb (suc n) 0 (λ e. omega arith)) (refuses (suc n) 0 d′ (head-number ring l n e) lent′ none)

@@ -6,8 +6,8 @@ use Prim.Native.Nat.{ℕ, _≤_}
 use borrow.Author.Tests.{le-leb}
 use lib.ListN.{length, take}
 use Rattle.sections.specs.Reading.{question, Grant}
-use Rattle.sections.specs.Calls.{Request, Word, misused, Out}
-use Rattle.sections.specs.Machine.{running, asked, finished, Turn, refused}
+use Rattle.sections.specs.Calls.{isOfCall, Request, Reply, misused, Out}
+use Rattle.sections.specs.Machine.{running, asked, finished, Turn, declined}
 use Rattle.stream.specs.Events.{Question, Release, LastWord}
 use Rattle.stream.specs.Fields.{valueOf}
 use Rattle.stream.specs.Limits.{headLimit, blockLimit}
@@ -15,25 +15,25 @@ use Rattle.stream.specs.Lines.{Field}
 use Rattle.stream.specs.Ring.{Ring}
 use Rattle.stream.specs.Stream.{Show, Past, Context}
 use Rattle.handing.specs.Handing.{handedValue}
-use Rattle.state.specs.Desk.{Desk}
+use Rattle.state.specs.Configuration.{Configuration}
 use Rattle.state.specs.declared.phase.Phase.{Phase}
-use Rattle.calls.specs.Call as R
-use Rattle.calls.specs.Call.{areRoomy, fits, isReading, unchanged, recalled}
+use Rattle.calls.specs.Response as R
+use Rattle.calls.specs.Response.{areRoomy, fits, isReading, unchanged, recalled}
 use Rattle.handing.specs.Released.{blockPart}
-use Rattle.agreement.specs.Plain.{toldWord, Handed, handedAfter, shows}
-use Rattle.agreement.specs.Run.{isOfCall, wordSeen, seen}
+use Rattle.agreement.specs.Plain.{toldWord, Handed, handedAfter, observes}
+use Rattle.agreement.specs.Run.{wordSeen, observed}
 use Rattle.agreement.proofs.Stands.{Lent, Standing, At, Stands, Under}
 use Rattle.agreement.proofs.Stands as F
 
 -- the reader and its buffers stand for the state, and hand out what is to be handed out
-pub record Holds (ring : Ring) (d : Desk) (h : Handed) (s : Standing) : Type 0 where
+pub record Holds (ring : Ring) (d : Configuration) (h : Handed) (s : Standing) : Type 0 where
   pub stands : Stands ring d s
   pub lent : Lent d (h .signed)
   pub block : take (d .reader .released) (d .block) ≡ h .released
 
 -- a call shows what the machine's turn says, and both go on side by side
-pub record CallFollows (ring : Ring) (h : Handed) (r : Request) (c : R.Call) (t : Turn Context Question Release LastWord) : Type 0 where
-  pub same : seen c ≡ shows (handedAfter h r (t .0 .0)) (t .0)
+pub record CallFollows (ring : Ring) (h : Handed) (r : Request) (c : R.Response) (t : Turn Context Question Release LastWord) : Type 0 where
+  pub same : observed c ≡ observes (handedAfter h r (t .0 .0)) (t .0)
   pub holds : Holds ring (c .after) (handedAfter h r (t .0 .0)) (t .1)
 
 -- ---- what is shown
@@ -42,33 +42,33 @@ pub part-is : (b : List ℕ) (n : ℕ) → blockLimit ≤ length b → blockPart
 unfolding blockPart
 part-is b n h = rw (le-leb blockLimit (length b) h)
 
-pub shown : {ring : Ring} (c : R.Call) (h : Handed) (o : Out Question Release LastWord) (s : Standing) → Holds ring (c .after) h s
-    → wordSeen (c .word) (c .signature) (c .after) ≡ toldWord (o .0) → c .taken ≡ o .1 → seen c ≡ shows h o
-unfolding seen
+pub shown : {ring : Ring} (c : R.Response) (h : Handed) (o : Out Question Release LastWord) (s : Standing) → Holds ring (c .after) h s
+    → wordSeen (c .word) (c .signature) (c .after) ≡ toldWord (o .0) → c .taken ≡ o .1 → observed c ≡ observes h o
+unfolding observed
 shown c h o s k w n =
     let b : blockPart (c .after .block) (c .after .reader .released) ≡ h .released = part-is _ _ (k .lent .block) ∙ k .block in
     let v : (name : List ℕ) → handedValue (c .after .head) (c .after .reader .fixed .accepted) name ≡ valueOf name (h .signed) = k .lent .value in
     λ i. record { out = (w i, n i); block = b i; value = λ name. v name i }
 
-pub follows : {ring : Ring} {h : Handed} {r : Request} (c : R.Call) (w : Word Question Release LastWord) (n : ℕ) (s : Standing)
+pub follows : {ring : Ring} {h : Handed} {r : Request} (c : R.Response) (w : Reply Question Release LastWord) (n : ℕ) (s : Standing)
     → Holds ring (c .after) (handedAfter h r w) s → wordSeen (c .word) (c .signature) (c .after) ≡ toldWord w → c .taken ≡ n
     → CallFollows ring h r c ((w, n), s)
 follows {h} {r} c w n s k e m = record { same = shown c (handedAfter h r w) (w, n) s k e m; holds = k }
 
 -- ---- refusals that change nothing
 
-pub unchanged-follows : {ring : Ring} {h : Handed} {r : Request} (n : ℕ) (d : Desk) (s : Standing) → isOfCall n ≡ true → Holds ring d h s
-    → CallFollows ring h r (unchanged n d) (refused n s)
+pub unchanged-follows : {ring : Ring} {h : Handed} {r : Request} (n : ℕ) (d : Configuration) (s : Standing) → isOfCall n ≡ true → Holds ring d h s
+    → CallFollows ring h r (unchanged n d) (declined n s)
 unfolding wordSeen
 unchanged-follows n d s m k = follows (unchanged n d) (misused n) 0 s k (rw m) refl
 
 -- ---- phases
 
 -- with no block handed out the block under way stays
-under-back : {d : Desk} {s : Show} {p : Past} {size : ℕ} {b : List ℕ} → Under d s p size b → Under (recalled d) s p size b
+under-back : {d : Configuration} {s : Show} {p : Past} {size : ℕ} {b : List ℕ} → Under d s p size b → Under (recalled d) s p size b
 under-back u = record { keeps = u .keeps; counts = u .counts; sound = u .sound; bytes = u .bytes }
 
-module _ {ring : Ring} {d : Desk} where
+module _ {ring : Ring} {d : Configuration} where
   pub reading-phase : {p : Phase} {c : Context} {g : List ℕ} → At ring d p (running c g) → isReading p ≡ true
   reading-phase (F.head early a e) = refl
   reading-phase (F.firstLine k sound none a e) = refl
@@ -96,6 +96,6 @@ module _ {ring : Ring} {d : Desk} where
 
 -- ---- loans
 
-pub roomy : {d : Desk} {fields : List Field} → Lent d fields → fits d ≡ true
+pub roomy : {d : Configuration} {fields : List Field} → Lent d fields → fits d ≡ true
 unfolding areRoomy
 roomy {d} l = rw (le-leb headLimit (length (d .head)) (l .head), le-leb blockLimit (length (d .block)) (l .block), le-leb headLimit (length (d .question)) (l .question))

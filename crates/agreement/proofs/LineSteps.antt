@@ -8,7 +8,7 @@ use borrow.Author.Tests.{ne-eqb, lt-leb}
 use lib.ListN.{length, set, length-set}
 use Rattle.octets.specs.Choice.{pick}
 use Rattle.sections.specs.Reading.{go, stop}
-use Rattle.sections.specs.Machine.{running, rule, gathered, step}
+use Rattle.sections.specs.Machine.{running, ruling, gathered, step}
 use Rattle.chunk.specs.Judging.{lineJudged, unlessFault, goodLine, signatureOf}
 use Rattle.stream.specs.Blocks.{isWholeLine, chunkSize, lineFault}
 use Rattle.stream.specs.Events.{closed, refused}
@@ -20,8 +20,8 @@ use Rattle.stream.specs.Stream as C
 use Rattle.stream.specs.Trailer.{isWholeTrailer, isTrailer}
 use Rattle.stream.proofs.Sound.{SoundShow, Sound, not-whole-empty}
 use Rattle.stream.proofs.SoundJudge.{SoundSays, judge-sound}
-use Rattle.state.specs.Desk.{Desk, desk, inPhase, on, moved, refuse, noSignature, lined}
-use Rattle.state.specs.Desk as D
+use Rattle.state.specs.Configuration.{Configuration, configuration, inPhase, on, moved, refuse, noSignature, lined}
+use Rattle.state.specs.Configuration as D
 use Rattle.line_steps.specs.FirstLine.{firstAnswered, firstGathered, pushFirstLine}
 use Rattle.body_steps.specs.Trailer.{trailerGathered, pushTrailer}
 use Rattle.line_steps.specs.FirstLine as Line
@@ -36,13 +36,13 @@ use Rattle.agreement.proofs.Gathering.{none-gathered, gather, short, at
 use Rattle.agreement.proofs.Refusals.{refuses, line-number}
 
 -- the phase that a line of so many bytes announces stands for the context that it announces
-pub announced-at : {ring : Ring} (d : Desk) (s : Show) (p : Past) (total n : ℕ) → Keeps (d .reader .fixed) s → Counts (d .reader .chain) p
+pub announced-at : {ring : Ring} (d : Configuration) (s : Show) (p : Past) (total n : ℕ) → Keeps (d .reader .fixed) s → Counts (d .reader .chain) p
     → Sound (announced s p total n) → At ring d (Line.announced n total) (running (announced s p total n) [])
 announced-at d s p total zero k c h = F.trailer h (none-gathered (d .block)) (not-whole-empty (C.trailer total) h)
 announced-at d s p total (suc n) k c h = rw (ne-eqb (suc n) 0 (λ e. omega arith)) (F.blockData k c h (none-gathered (d .block)) (not-whole-empty (C.blockData s p (suc n)) h))
 
 -- the same where the reader has counted the total
-pub announced-by : {ring : Ring} (d : Desk) (s : Show) (p : Past) (t total n : ℕ) → t ≡ total → Keeps (d .reader .fixed) s → Counts (d .reader .chain) p
+pub announced-by : {ring : Ring} (d : Configuration) (s : Show) (p : Past) (t total n : ℕ) → t ≡ total → Keeps (d .reader .fixed) s → Counts (d .reader .chain) p
     → Sound (announced s p total n) → At ring d (Line.announced n t) (running (announced s p total n) [])
 announced-by d s p t total n e k c h = rw e (announced-at d s p total n k c h)
 
@@ -50,12 +50,12 @@ announced-by d s p t total n e k c h = rw e (announced-at d s p total n k c h)
 pub none-before : (c : Chain) → c .number .0 ≡ 0 → Counts c nothing
 none-before c e = record { blocks = e; hash = rw e refl }
 
-module _ (ring : Ring) (fields : List Field) (d : Desk) (x : ℕ) (lent : Lent d fields) (none : d .reader .released ≡ 0) where
+module _ (ring : Ring) (fields : List Field) (d : Configuration) (x : ℕ) (lent : Lent d fields) (none : d .reader .released ≡ 0) where
   module _ (s : Show) (k : Keeps (d .reader .fixed) s) (sound : SoundShow s) (zero-blocks : d .reader .chain .number .0 ≡ 0) (have : ℕ) (g : List ℕ) where
     abbrev l : List ℕ
     l = g ++ x ∷ []
 
-    abbrev d′ : Desk
+    abbrev d′ : Configuration
     d′ = lined d (P.FirstLine (have + 1)) (set (d .reader .line) have x)
 
     lent′ : (q : Phase) → Lent (moved d′ q) fields
@@ -63,7 +63,7 @@ module _ (ring : Ring) (fields : List Field) (d : Desk) (x : ℕ) (lent : Lent d
 
     answered : (fault : ℕ) → lineFault (s .size) false true 0 l ≡ fault → SoundSays (unlessBroken fault (go (announced s nothing 0 (chunkSize l))))
         → Follows ring fields (firstAnswered d′ (unlessFault fault (goodLine (chunkSize l) (signatureOf l)) .answer))
-        (rule (unlessBroken fault (go (announced s nothing 0 (chunkSize l)))))
+        (ruling (unlessBroken fault (go (announced s nothing 0 (chunkSize l)))))
     unfolding firstAnswered
     answered zero e h =
         F.on
@@ -96,15 +96,15 @@ module _ (ring : Ring) (fields : List Field) (d : Desk) (x : ℕ) (lent : Lent d
     abbrev text : List ℕ
     text = g ++ x ∷ []
 
-    abbrev after : Desk
-    after = desk (inPhase (d .reader) (P.Trailer (have + 1) total)) (d .head) (set (d .block) have x) (d .question)
+    abbrev after : Configuration
+    after = configuration (inPhase (d .reader) (P.Trailer (have + 1) total)) (d .head) (set (d .block) have x) (d .question)
 
     lent-after : (q : Phase) → Lent (moved after q) fields
     lent-after q = still lent _ refl refl (length-set (d .block) have x) refl refl
 
     closed-by : (t : Bool)
         → Follows ring fields (pick t (D.stop (W.Closed total) noSignature (moved after (P.Closed total))) (refuse 6 (have + 1) after))
-        (rule (elim t [ true ↦ stop (closed total) | false ↦ stop (refused 6) ]))
+        (ruling (elim t [ true ↦ stop (closed total) | false ↦ stop (refused 6) ]))
     unfolding wordSeen
     closed-by true = F.says refl refl (record { stands = F.closed; lent = lent-after _; taken = none })
     closed-by false = refuses 6 (have + 1) after (omega arith) (lent-after (P.Trailer (have + 1) total)) none

@@ -24,15 +24,15 @@ use Rattle.stream.proofs.Sound.{not-whole-empty}
 use Rattle.stream.proofs.Truth.{left-holds, right-holds}
 use Rattle.handing.specs.Handing.{handedValue}
 use Rattle.handing.proofs.ValueLaws.{handed-none}
-use Rattle.state.specs.Desk.{Desk, desk, freshReader}
+use Rattle.state.specs.Configuration.{Configuration, configuration, freshReader}
 use Rattle.state.specs.declared.reader.Reader.{Reader}
-use Rattle.calls.specs.Call as R
-use Rattle.calls.specs.Call.{areRoomy, isReading, unchanged, recalled}
+use Rattle.calls.specs.Response as R
+use Rattle.calls.specs.Response.{areRoomy, isReading, unchanged, recalled}
 use Rattle.reader.specs.Feed.{takenFrom, feedOf}
 use Rattle.calls.specs.Answer.{answerOf, endOf}
 use Rattle.handing.specs.Released.{blockPart}
-use Rattle.agreement.specs.Plain.{Handed, nothing, handedAfter, shows, showing, plainlyShown}
-use Rattle.agreement.specs.Run.{Call, same, other, called, aside, runCall, wordSeen, seen, runFrom, run, plainCall, plainCalls}
+use Rattle.agreement.specs.Plain.{Handed, nothing, handedAfter, observes, traceFrom, plainTrace}
+use Rattle.agreement.specs.Run.{Invocation, same, other, called, aside, runCall, wordSeen, observed, runFrom, run, plainCall, plainCalls}
 use Rattle.agreement.proofs.Stands.{Standing}
 use Rattle.agreement.proofs.Stands as F
 use Rattle.agreement.proofs.Gathering.{none-gathered}
@@ -49,13 +49,13 @@ neither false e = refl
 
 -- REFUSAL 2: a loan that will not do changes nothing, whatever the reader
 pub misfit-unchanged : (r : Reader) (h b q : List ℕ) (keys : KeyRing) (k : Request) → loanFits h b q keys k ≡ false
-    → called keys (desk r h b q) k ≡ unchanged 2 (desk r h b q)
+    → called keys (configuration r h b q) k ≡ unchanged 2 (configuration r h b q)
 unfolding loanFits feedOf answerOf endOf
 misfit-unchanged r h b q keys (feed piece) e = rw (loan-same h b q keys (feed piece) ∙ e)
 misfit-unchanged r h b q keys (answer good) e = rw (neither (areRoomy (length h) (length b) (length q)) (loan-same h b q keys (answer good) ∙ e))
 misfit-unchanged r h b q keys end e = rw (neither (areRoomy (length h) (length b) (length q)) (loan-same h b q keys end ∙ e))
 
-called-follows : (keys : KeyRing) (d : Desk) (h : Handed) (s : Standing) (k : Request) → Holds (ringOf keys) d h s
+pub called-follows : (keys : KeyRing) (d : Configuration) (h : Handed) (s : Standing) (k : Request) → Holds (ringOf keys) d h s
     → CallFollows (ringOf keys) h k (called keys d k) (turn (rules (ringOf keys)) s (S.call (ringFits keys k) k))
 unfolding turn feedOf answerOf endOf
 called-follows keys d h s (feed piece) k = rw (roomy (k .lent)) (by (leb (keys .count) ringLimit))
@@ -68,36 +68,36 @@ called-follows keys d h s (answer good) k = rw (roomy (k .lent)) (answer-follows
 called-follows keys d h s end k = rw (roomy (k .lent)) (end-follows (ringOf keys) h d s k)
 
 -- a call with other buffers, which will not do, leaves ours as they are
-aside-unchanged : (d : Desk) (h b q : List ℕ) (keys : KeyRing) (k : Request) → loanFits h b q keys k ≡ false
-    → aside keys d (desk (d .reader) h b q) k ≡ unchanged 2 d
+aside-unchanged : (d : Configuration) (h b q : List ℕ) (keys : KeyRing) (k : Request) → loanFits h b q keys k ≡ false
+    → aside keys d (configuration (d .reader) h b q) k ≡ unchanged 2 d
 aside-unchanged d h b q keys k e = rw (misfit-unchanged (d .reader) h b q keys k e)
 
 -- where the buffers are too short, every call is refused with 2 and nothing is handed out
-record Idle (d : Desk) (h : Handed) : Type 0 where
-  short : haveRoom (d .head) (d .block) (d .question) ≡ false
-  block : blockPart (d .block) (d .reader .released) ≡ h .released
-  value : (name : List ℕ) → handedValue (d .head) (d .reader .fixed .accepted) name ≡ valueOf name (h .signed)
+pub record Idle (d : Configuration) (h : Handed) : Type 0 where
+  pub short : haveRoom (d .head) (d .block) (d .question) ≡ false
+  pub block : blockPart (d .block) (d .reader .released) ≡ h .released
+  pub value : (name : List ℕ) → handedValue (d .head) (d .reader .fixed .accepted) name ≡ valueOf name (h .signed)
 
-idle-shown : (d : Desk) (h : Handed) → Idle d h → seen (unchanged 2 d) ≡ shows h (misused 2, 0)
-unfolding seen wordSeen
+idle-shown : (d : Configuration) (h : Handed) → Idle d h → observed (unchanged 2 d) ≡ observes h (misused 2, 0)
+unfolding observed wordSeen
 idle-shown d h k = let v = k .value in λ i. record { out = (misused 2, 0); block = k .block i; value = λ name. v name i }
 
 -- ---- a list of calls, from a first loan of the buffers h₀, b₀ and q₀
 
 module _ (keys : KeyRing) (h₀ b₀ q₀ : List ℕ) where
   -- the reader beside the machine
-  data Beside : Desk → Handed → Standing → Type 0 where
-    fit : {d : Desk} {h : Handed} {s : Standing} → haveRoom h₀ b₀ q₀ ≡ true → Holds (ringOf keys) d h s → Beside d h s
-    idle : {d : Desk} {h : Handed} {s : Standing} → haveRoom h₀ b₀ q₀ ≡ false → Idle d h → Beside d h s
+  pub data Beside : Configuration → Handed → Standing → Type 0 where
+    fit : {d : Configuration} {h : Handed} {s : Standing} → haveRoom h₀ b₀ q₀ ≡ true → Holds (ringOf keys) d h s → Beside d h s
+    idle : {d : Configuration} {h : Handed} {s : Standing} → haveRoom h₀ b₀ q₀ ≡ false → Idle d h → Beside d h s
 
-  record Goes (h : Handed) (r : Request) (c : R.Call) (t : Turn Context Question Release LastWord) : Type 0 where
-    shown : seen c ≡ shows (handedAfter h r (t .0 .0)) (t .0)
-    beside : Beside (c .after) (handedAfter h r (t .0 .0)) (t .1)
+  pub record Goes (h : Handed) (r : Request) (c : R.Response) (t : Turn Context Question Release LastWord) : Type 0 where
+    pub shown : observed c ≡ observes (handedAfter h r (t .0 .0)) (t .0)
+    pub beside : Beside (c .after) (handedAfter h r (t .0 .0)) (t .1)
 
-  abbrev turned : Standing → Call → Turn Context Question Release LastWord
+  abbrev pub turned : Standing → Invocation → Turn Context Question Release LastWord
   turned s k = turn (rules (ringOf keys)) s (plainCall keys h₀ b₀ q₀ k)
 
-  call-goes : (d : Desk) (h : Handed) (s : Standing) (k : Call) → Beside d h s
+  pub call-goes : (d : Configuration) (h : Handed) (s : Standing) (k : Invocation) → Beside d h s
       → Goes h (request (plainCall keys h₀ b₀ q₀ k)) (runCall keys d k) (turned s k)
   unfolding turn runCall loanFits
   call-goes d h s (same k) (fit e v) =
@@ -112,15 +112,15 @@ module _ (keys : KeyRing) (h₀ b₀ q₀ : List ℕ) where
   call-goes d h s (other h′ b′ q′ keys′ k m) (idle e v) =
       rw (aside-unchanged d h′ b′ q′ keys′ k m) (record { shown = idle-shown d h v; beside = idle e v })
 
-  calls-go : (ks : List Call) (d : Desk) (h : Handed) (s : Standing) → Beside d h s
-      → runFrom keys d ks ≡ showing h (plainCalls keys h₀ b₀ q₀ ks) (M.runFrom (rules (ringOf keys)) s (plainCalls keys h₀ b₀ q₀ ks))
-  unfolding runFrom M.runFrom showing plainCalls
+  calls-go : (ks : List Invocation) (d : Configuration) (h : Handed) (s : Standing) → Beside d h s
+      → runFrom keys d ks ≡ traceFrom h (plainCalls keys h₀ b₀ q₀ ks) (M.runFrom (rules (ringOf keys)) s (plainCalls keys h₀ b₀ q₀ ks))
+  unfolding runFrom M.runFrom traceFrom plainCalls
   calls-go [] d h s v = refl
   calls-go (k ∷ ks) d h s v =
       let g = call-goes d h s k v in
       λ i. g .shown i ∷ calls-go ks (runCall keys d k .after) (handedAfter h (request (plainCall keys h₀ b₀ q₀ k)) (turned s k .0 .0)) (turned s k .1) (g .beside) i
 
-  fresh-beside : (t : Bool) → haveRoom h₀ b₀ q₀ ≡ t → Beside (desk freshReader h₀ b₀ q₀) nothing (running C.head [])
+  pub fresh-beside : (t : Bool) → haveRoom h₀ b₀ q₀ ≡ t → Beside (configuration freshReader h₀ b₀ q₀) nothing (running C.head [])
   unfolding freshReader haveRoom blockPart valueOf
   fresh-beside true e =
       fit e
@@ -143,8 +143,8 @@ module _ (keys : KeyRing) (h₀ b₀ q₀ : List ℕ) where
       none false = refl
 
   -- THE RUN: what a caller sees of the reader's calls is what the plain reading shows of them
-  pub run-shown : (ks : List Call) → run keys h₀ b₀ q₀ ks ≡ plainlyShown (ringOf keys) (plainCalls keys h₀ b₀ q₀ ks)
-  unfolding run runCalls plainlyShown
+  pub run-shown : (ks : List Invocation) → run keys h₀ b₀ q₀ ks ≡ plainTrace (ringOf keys) (plainCalls keys h₀ b₀ q₀ ks)
+  unfolding run runCalls plainTrace
   run-shown ks =
-      calls-go ks (desk freshReader h₀ b₀ q₀) nothing (running C.head []) (fresh-beside (haveRoom h₀ b₀ q₀) refl)
-      ∙ ap (showing nothing (plainCalls keys h₀ b₀ q₀ ks)) (calls-agree (rules (ringOf keys)) C.head (plainCalls keys h₀ b₀ q₀ ks))
+      calls-go ks (configuration freshReader h₀ b₀ q₀) nothing (running C.head []) (fresh-beside (haveRoom h₀ b₀ q₀) refl)
+      ∙ ap (traceFrom nothing (plainCalls keys h₀ b₀ q₀ ks)) (calls-agree (rules (ringOf keys)) C.head (plainCalls keys h₀ b₀ q₀ ks))

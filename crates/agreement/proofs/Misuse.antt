@@ -8,11 +8,11 @@ use Rattle.ring.specs.Keys.{ringOf}
 use Rattle.ring.specs.declared.KeyRing.{KeyRing}
 use Rattle.sections.specs.Calls.{Request, feed, answer, end}
 use Rattle.stream.proofs.Truth.{left-holds}
-use Rattle.state.specs.Desk.{Desk, Next, on, stop, refuse, pending}
+use Rattle.state.specs.Configuration.{Configuration, Next, on, stop, refuse, pending}
 use Rattle.state.specs.declared.phase.Phase.{Phase}
 use Rattle.state.specs.declared.phase.Phase.the-variants as P
-use Rattle.calls.specs.Call as R
-use Rattle.calls.specs.Call.{fits, unchanged, given, recalled}
+use Rattle.calls.specs.Response as R
+use Rattle.calls.specs.Response.{fits, unchanged, given, recalled}
 use Rattle.reader.specs.Feed.{takenFrom, feedOf}
 use Rattle.calls.specs.Answer.{headAnswer, blockAnswer, answerAt, answerOf, endOf}
 use Rattle.agreement.specs.Run.{called}
@@ -27,11 +27,11 @@ given-fine : (n : Next) → Fine n → isMisuse (given 0 n .word) ≡ false
 given-fine (on d) f = refl
 given-fine (stop w signature d) f = f
 
-call-pick : (t : Bool) (c e : R.Call) → isMisuse (c .word) ≡ false → isMisuse (e .word) ≡ false → isMisuse (pick t c e .word) ≡ false
+call-pick : (t : Bool) (c e : R.Response) → isMisuse (c .word) ≡ false → isMisuse (e .word) ≡ false → isMisuse (pick t c e .word) ≡ false
 call-pick true c e a b = a
 call-pick false c e a b = b
 
-fine-answer : (d : Desk) (p : Phase) (good : Bool) → isAsking p ≡ true → isMisuse (answerAt p d good .word) ≡ false
+fine-answer : (d : Configuration) (p : Phase) (good : Bool) → isAsking p ≡ true → isMisuse (answerAt p d good .word) ≡ false
 unfolding answerAt headAnswer blockAnswer
 fine-answer d (P.Head n) good e = absurd (true≢false (sym e))
 fine-answer d (P.HeadAsked n) good e = call-pick good _ _ refl (given-fine (refuse 10 0 d) (fine-refuse 10 0 d (omega arith)))
@@ -44,7 +44,7 @@ fine-answer d (P.Trailer have total) good e = absurd (true≢false (sym e))
 fine-answer d (P.Closed total) good e = absurd (true≢false (sym e))
 fine-answer d (P.Refused n) good e = absurd (true≢false (sym e))
 
-answer-early : (d : Desk) (p : Phase) (good : Bool) → isAsking p ≡ false → answerAt p d good ≡ unchanged 1 d
+answer-early : (d : Configuration) (p : Phase) (good : Bool) → isAsking p ≡ false → answerAt p d good ≡ unchanged 1 d
 unfolding answerAt
 answer-early d (P.Head n) good e = refl
 answer-early d (P.HeadAsked n) good e = absurd (true≢false e)
@@ -57,7 +57,7 @@ answer-early d (P.Trailer have total) good e = refl
 answer-early d (P.Closed total) good e = refl
 answer-early d (P.Refused n) good e = refl
 
-module _ (keys : KeyRing) (d : Desk) where
+module _ (keys : KeyRing) (d : Configuration) where
   roomy-of : (r : Request) → loanFits (d .head) (d .block) (d .question) keys r ≡ true → fits d ≡ true
   roomy-of r e = left-holds (fits d) _ (loan-same (d .head) (d .block) (d .question) keys r ∙ e)
 

@@ -11,7 +11,7 @@ use lib.Seq.{take-append-seam}
 use Rattle.octets.specs.Choice.{pick}
 use Rattle.sections.specs.Reading.{question}
 use Rattle.sections.specs.Calls.{event}
-use Rattle.sections.specs.Machine.{asked, rule, gathered, step}
+use Rattle.sections.specs.Machine.{asked, ruling, gathered, step}
 use Rattle.chunk.specs.Judging.{lineJudged, unlessFault, goodLine, signatureOf}
 use Rattle.blocks.specs.Place.{offsetAt}
 use Rattle.blocks.specs.Writing.{atFront, messageWritten}
@@ -26,7 +26,7 @@ use Rattle.stream.proofs.MessageLaws.{message-length}
 use Rattle.stream.proofs.RulesHold.{rules-hold}
 use Rattle.stream.proofs.Sound.{SoundBlock}
 use Rattle.stream.proofs.SoundJudge.{SoundSays, judge-sound}
-use Rattle.state.specs.Desk.{Desk, on, lined}
+use Rattle.state.specs.Configuration.{Configuration, on, lined}
 use Rattle.line_steps.specs.NextLine.{offsetNow, nextJudged, hashNow, messageNow, nextAnswered, nextGathered, pushNextLine}
 use Rattle.line_steps.specs.NextLine as Line
 use Rattle.state.specs.declared.phase.Phase.the-variants as P
@@ -64,12 +64,12 @@ carries : (N : ℕ) (full : Bool) (sofar : ℕ) (l : List ℕ) → lineFault N t
 unfolding lineFault lineRules
 carries N full sofar l e = rules-hold (lineRules N true full sofar l) refl e .1 .0
 
-module _ (ring : Ring) (fields : List Field) (d : Desk) (x : ℕ) (lent : Lent d fields) (none : d .reader .released ≡ 0)
+module _ (ring : Ring) (fields : List Field) (d : Configuration) (x : ℕ) (lent : Lent d fields) (none : d .reader .released ≡ 0)
     (s : Show) (p : Past) (size : ℕ) (b : List ℕ) (u : Under d s p size b) (have : ℕ) (g : List ℕ) where
   abbrev l : List ℕ
   l = g ++ x ∷ []
 
-  abbrev d′ : Desk
+  abbrev d′ : Configuration
   d′ = lined d (P.NextLine (have + 1) size) (set (d .reader .line) have x)
 
   abbrev message : List ℕ
@@ -94,7 +94,7 @@ module _ (ring : Ring) (fields : List Field) (d : Desk) (x : ℕ) (lent : Lent d
   message-is = rw (hash-is, offset-is, u .keeps .id) (front-fits message (d .question) fits)
 
   -- the question as it is seen is the reading's
-  seen-is : carriesSignature l ≡ true → (e : Desk) → e .question ≡ messageNow d′ size .bytes
+  seen-is : carriesSignature l ≡ true → (e : Configuration) → e .question ≡ messageNow d′ size .bytes
       → wordSeen (W.Question (messageNow d′ size .count) (d′ .reader .fixed .key)) (signatureOf l) e ≡ event (question (blockQuestion s p b l))
   unfolding wordSeen blockQuestion
   seen-is c e q =
@@ -107,7 +107,7 @@ module _ (ring : Ring) (fields : List Field) (d : Desk) (x : ℕ) (lent : Lent d
       rw z (λ i. event (question (record { message = m i; signature = t i; keyNumber = n i })))
 
   question-follows : lineFault (s .size) true (eqb (length b) (s .size)) (bodyWith s p b) l ≡ 0 → SoundSays (acceptBlock s p b l)
-      → Follows ring fields (Line.asked d′ size (chunkSize l) (signatureOf l)) (rule (acceptBlock s p b l))
+      → Follows ring fields (Line.asked d′ size (chunkSize l) (signatureOf l)) (ruling (acceptBlock s p b l))
   unfolding Line.asked acceptBlock
   question-follows e h =
       F.says (seen-is (carries (s .size) (eqb (length b) (s .size)) (bodyWith s p b) l e) _ refl) refl
@@ -131,7 +131,7 @@ module _ (ring : Ring) (fields : List Field) (d : Desk) (x : ℕ) (lent : Lent d
       → SoundSays (unlessBroken fault (acceptBlock s p b l))
       → Follows ring fields
       (nextAnswered d′ size (unlessFault fault (goodLine (chunkSize l) (signatureOf l)) .answer) (unlessFault fault (goodLine (chunkSize l) (signatureOf l)) .signature))
-      (rule (unlessBroken fault (acceptBlock s p b l)))
+      (ruling (unlessBroken fault (acceptBlock s p b l)))
   unfolding nextAnswered
   answered zero e h = question-follows e h
   answered (suc n) e h = refuses (suc n) size d′ (line-number (s .size) true (eqb (length b) (s .size)) (bodyWith s p b) l n e) lent′ none

@@ -8,7 +8,7 @@ use borrow.Author.Tests.{leb-true, ne-eqb}
 use lib.Dec.{leb}
 use Rattle.octets.specs.Choice.{pick}
 use Rattle.sections.specs.Reading.{last}
-use Rattle.sections.specs.Calls.{event}
+use Rattle.sections.specs.Calls.{isOfCall, event}
 use Rattle.sections.specs.Machine.{finished, decides}
 use Rattle.stream.specs.Blocks.{lineRules, lineFault}
 use Rattle.stream.specs.Events.{refused}
@@ -17,10 +17,10 @@ use Rattle.stream.specs.Lines.{Field}
 use Rattle.stream.specs.Ring.{Ring}
 use Rattle.stream.specs.Rule.{Rule, firstBroken}
 use Rattle.stream.proofs.Truth.{left-holds, right-holds}
-use Rattle.state.specs.Desk.{Desk, refuse}
+use Rattle.state.specs.Configuration.{Configuration, refuse}
 use Rattle.state.specs.declared.word.Word.the-variants as W
 use Rattle.state.proofs.BufferLaws.{length-cleared}
-use Rattle.agreement.specs.Run.{isOfCall, wordSeen}
+use Rattle.agreement.specs.Run.{wordSeen}
 use Rattle.agreement.proofs.Stands.{Lent, Follows}
 use Rattle.agreement.proofs.Stands as F
 use Rattle.agreement.proofs.Gathering.{still}
@@ -54,11 +54,11 @@ head-number ring l k e = rw e at (broken-from 3 (textRules l (headOf l) ++ trust
 pub of-stream : (n : ℕ) → 3 ≤ n → isOfCall n ≡ false
 of-stream n h = rw (ne-eqb n 1 (λ e. omega arith), ne-eqb n 2 (λ e. omega arith))
 
-pub seen-final : (n : ℕ) (signature : List ℕ) (d : Desk) → 3 ≤ n → wordSeen (W.Refused n) signature d ≡ event (last (refused n))
+pub seen-final : (n : ℕ) (signature : List ℕ) (d : Configuration) → 3 ≤ n → wordSeen (W.Refused n) signature d ≡ event (last (refused n))
 unfolding wordSeen
 seen-final n signature d h = rw (of-stream n h)
 
-pub refuses : {ring : Ring} {fields : List Field} (n count : ℕ) (d : Desk) → 3 ≤ n → Lent d fields → d .reader .released ≡ 0
+pub refuses : {ring : Ring} {fields : List Field} (n count : ℕ) (d : Configuration) → 3 ≤ n → Lent d fields → d .reader .released ≡ 0
     → Follows ring fields (refuse n count d) (decides (last (refused n)) finished)
 unfolding refuse
 refuses n count d h l z =

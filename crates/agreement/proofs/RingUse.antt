@@ -17,7 +17,7 @@ use Rattle.stream.specs.Limits.{lineLimit, ringLimit}
 use Rattle.stream.specs.Lines.{crlf}
 use Rattle.stream.specs.Ring.{Ring}
 use Rattle.stream.specs.Trailer.{isWholeTrailer, isTrailer}
-use Rattle.state.specs.Desk.{Desk, Next, on, stop, refuse}
+use Rattle.state.specs.Configuration.{Configuration, Next, on, stop, refuse}
 use Rattle.line_steps.specs.FirstLine.{firstAnswered, firstGathered, pushFirstLine}
 use Rattle.line_steps.specs.NextLine.{nextAnswered, nextGathered, pushNextLine}
 use Rattle.body_steps.specs.Data.{pushData, pushDataEnd}
@@ -26,7 +26,7 @@ use Rattle.line_steps.specs.NextLine as Line
 use Rattle.state.specs.Run.{follow, runOf}
 use Rattle.state.specs.declared.phase.Phase.{Phase}
 use Rattle.state.specs.declared.phase.Phase.the-variants as P
-use Rattle.calls.specs.Call.{recalled}
+use Rattle.calls.specs.Response.{recalled}
 use Rattle.reader.specs.Feed.{pushAt, pushByte, takenFrom, feedOf}
 use Rattle.agreement.specs.Due.{isInHead}
 
@@ -43,21 +43,21 @@ past-phase : (t : Bool) (p q : Phase) → isInHead p ≡ false → isInHead q �
 past-phase true p q a b = a
 past-phase false p q a b = b
 
-past-refuse : (n count : ℕ) (d : Desk) → Past (refuse n count d)
+past-refuse : (n count : ℕ) (d : Configuration) → Past (refuse n count d)
 unfolding refuse
 past-refuse n count d = tt
 
-past-first : (d : Desk) (a : LineAnswer) → Past (firstAnswered d a)
+past-first : (d : Configuration) (a : LineAnswer) → Past (firstAnswered d a)
 unfolding firstAnswered
 past-first d (A.Refused n) = past-refuse n 0 d
 past-first d (A.Good size) = past-phase (eqb size 0) (P.Trailer 0 0) (P.Data 0 size) refl refl
 
-past-next : (d : Desk) (size : ℕ) (a : LineAnswer) (signature : List ℕ) → Past (nextAnswered d size a signature)
+past-next : (d : Configuration) (size : ℕ) (a : LineAnswer) (signature : List ℕ) → Past (nextAnswered d size a signature)
 unfolding nextAnswered Line.asked
 past-next d size (A.Refused n) signature = past-refuse n size d
 past-next d size (A.Good next) signature = tt
 
-past-push : (ring : Ring) (d : Desk) (p : Phase) (x : ℕ) → isInHead p ≡ false → Past (pushAt ring p d x)
+past-push : (ring : Ring) (d : Configuration) (p : Phase) (x : ℕ) → isInHead p ≡ false → Past (pushAt ring p d x)
 unfolding pushAt pushData pushDataEnd pushFirstLine firstGathered pushNextLine nextGathered pushTrailer trailerGathered
 past-push ring d (P.Head have) x e = absurd (true≢false e)
 past-push ring d (P.HeadAsked n) x e = tt
@@ -80,7 +80,7 @@ past-push ring d (P.Trailer have total) x e =
 past-push ring d (P.Closed total) x e = tt
 past-push ring d (P.Refused n) x e = tt
 
-push-same : (ring ring′ : Ring) (d : Desk) (p : Phase) (x : ℕ) → isInHead p ≡ false → pushAt ring p d x ≡ pushAt ring′ p d x
+push-same : (ring ring′ : Ring) (d : Configuration) (p : Phase) (x : ℕ) → isInHead p ≡ false → pushAt ring p d x ≡ pushAt ring′ p d x
 unfolding pushAt
 push-same ring ring′ d (P.Head have) x e = absurd (true≢false e)
 push-same ring ring′ d (P.HeadAsked n) x e = refl
@@ -93,7 +93,7 @@ push-same ring ring′ d (P.Trailer have total) x e = refl
 push-same ring ring′ d (P.Closed total) x e = refl
 push-same ring ring′ d (P.Refused n) x e = refl
 
-run-same : (ring ring′ : Ring) (xs : List ℕ) (d : Desk) (t : ℕ) → isInHead (d .reader .phase) ≡ false
+run-same : (ring ring′ : Ring) (xs : List ℕ) (d : Configuration) (t : ℕ) → isInHead (d .reader .phase) ≡ false
     → runOf (pushByte ring) d t xs ≡ runOf (pushByte ring′) d t xs
 unfolding runOf
 run-same ring ring′ [] d t e = refl
@@ -101,13 +101,13 @@ run-same ring ring′ (x ∷ xs) d t e =
     rw (push-same ring ring′ d (d .reader .phase) x e)
     (by (pushByte ring′ d x) (past-push ring′ d (d .reader .phase) x e) (λ d′ f. run-same ring ring′ xs d′ (t + 1) f))
   where
-    by : (n : Next) → Past n → ((d′ : Desk) → isInHead (d′ .reader .phase) ≡ false → runOf (pushByte ring) d′ (t + 1) xs ≡ runOf (pushByte ring′) d′ (t + 1) xs)
+    by : (n : Next) → Past n → ((d′ : Configuration) → isInHead (d′ .reader .phase) ≡ false → runOf (pushByte ring) d′ (t + 1) xs ≡ runOf (pushByte ring′) d′ (t + 1) xs)
         → follow n (t + 1) (λ d′. runOf (pushByte ring) d′ (t + 1) xs) ≡ follow n (t + 1) (λ d′. runOf (pushByte ring′) d′ (t + 1) xs)
     by (on d′) p ih = ih d′ p
     by (stop w signature d′) p ih = refl
 
 -- AFTER THE HEAD two rings that will do give the same feed.
-pub ring-unread : (keys keys′ : KeyRing) (d : Desk) (piece : List ℕ) → isInHead (d .reader .phase) ≡ false
+pub ring-unread : (keys keys′ : KeyRing) (d : Configuration) (piece : List ℕ) → isInHead (d .reader .phase) ≡ false
     → leb (keys .count) ringLimit ≡ true → leb (keys′ .count) ringLimit ≡ true → feedOf keys d piece ≡ feedOf keys′ d piece
 unfolding feedOf takenFrom
 ring-unread keys keys′ d piece e f g = rw (f, g, run-same (ringOf keys) (ringOf keys′) piece (recalled d) 0 e)

@@ -6,7 +6,7 @@ use Prim.Native.Nat.{ℕ}
 use lib.ListN.{length}
 use Rattle.ring.specs.declared.KeyRing.{KeyRing}
 use Rattle.sections.specs.Calls.{Request}
-use Rattle.calls.specs.Call.{areRoomy}
+use Rattle.calls.specs.Response.{areRoomy}
 use Rattle.agreement.specs.Loans.{haveRoom, ringFits, loanFits}
 
 pub room-same : (h b q : List ℕ) → areRoomy (length h) (length b) (length q) ≡ haveRoom h b q

@@ -9,7 +9,7 @@ use Rattle.octets.specs.Choice.{pick}
 use Rattle.sections.specs.Reading.{Event, question, message, last, Grant, granted}
 use Rattle.sections.specs.Machine.{State, running, asked, finished, Step}
 use Rattle.sections.specs.Machine as M
-use Rattle.sections.specs.Calls.{Word, event}
+use Rattle.sections.specs.Calls.{Reply, event}
 use Rattle.stream.specs.Blocks.{chained}
 use Rattle.stream.specs.Events.{Question, Release, headAccepted, block, LastWord}
 use Rattle.stream.specs.Fields.{valueOf}
@@ -22,8 +22,8 @@ use Rattle.stream.specs.Stream.{Show, Past, after, Context, isWhole, announced,
 use Rattle.stream.specs.Stream as C
 use Rattle.stream.proofs.Sound.{SoundShow, SoundBlock, Sound}
 use Rattle.handing.specs.Handing.{handedValue}
-use Rattle.state.specs.Desk.{Desk, Next}
-use Rattle.state.specs.Desk as D
+use Rattle.state.specs.Configuration.{Configuration, Next}
+use Rattle.state.specs.Configuration as D
 use Rattle.state.specs.declared.phase.Phase.{Phase}
 use Rattle.state.specs.declared.phase.Phase.the-variants as P
 use Rattle.state.specs.declared.reader.Chain.{Chain}
@@ -51,7 +51,7 @@ pub record Counts (c : Chain) (p : Past) : Type 0 where
   pub hash : pick (eqb (c .number .0) 0) [] (c .hash) ≡ p .hash
 
 -- the buffers and the line have their room, and the fields are those whose values are handed out
-pub record Lent (d : Desk) (fields : List Field) : Type 0 where
+pub record Lent (d : Configuration) (fields : List Field) : Type 0 where
   pub head : headLimit ≤ length (d .head)
   pub block : blockLimit ≤ length (d .block)
   pub question : headLimit ≤ length (d .question)
@@ -64,13 +64,13 @@ abbrev pub Standing : Type 0
 Standing = State Context Release LastWord
 
 -- the block b is under way, after the blocks of p
-pub record Under (d : Desk) (s : Show) (p : Past) (size : ℕ) (b : List ℕ) : Type 0 where
+pub record Under (d : Configuration) (s : Show) (p : Past) (size : ℕ) (b : List ℕ) : Type 0 where
   pub keeps : Keeps (d .reader .fixed) s
   pub counts : Counts (d .reader .chain) p
   pub sound : SoundBlock s p (length b)
   pub bytes : Gathered (d .block) size b
 
-module _ (ring : Ring) (d : Desk) where
+module _ (ring : Ring) (d : Configuration) where
   -- the head of the n bytes l is good, and its question open
   pub record HeadAsked (n : ℕ) (l : List ℕ) : Type 0 where
     pub bytes : Gathered (d .head) n l
@@ -116,13 +116,13 @@ module _ (ring : Ring) (d : Desk) where
     refused : {n : ℕ} → At (P.Refused n) finished
 
 -- the reader and its buffers stand for the state
-abbrev pub Stands : Ring → Desk → Standing → Type 0
+abbrev pub Stands : Ring → Configuration → Standing → Type 0
 Stands ring d s = At ring d (d .reader .phase) s
 
 -- ---- while bytes are taken
 
 -- and no block is handed out
-pub record Reads (ring : Ring) (fields : List Field) (d : Desk) (s : Standing) : Type 0 where
+pub record Reads (ring : Ring) (fields : List Field) (d : Configuration) (s : Standing) : Type 0 where
   pub stands : Stands ring d s
   pub lent : Lent d fields
   pub taken : d .reader .released ≡ 0
@@ -135,7 +135,7 @@ isRelease (last l) = false
 
 -- what a byte does to the reader is what it does to the machine
 pub data Follows (ring : Ring) (fields : List Field) : Next → Step Context Question Release LastWord → Type 0 where
-  on : {d : Desk} {c : Context} {g : List ℕ} → Reads ring fields d (running c g) → Follows ring fields (D.on d) (M.on c g)
-  says : {d : Desk} {s : Standing} {w : Code.Word} {signature : List ℕ} {e : Event Question Release LastWord}
+  on : {d : Configuration} {c : Context} {g : List ℕ} → Reads ring fields d (running c g) → Follows ring fields (D.on d) (M.on c g)
+  says : {d : Configuration} {s : Standing} {w : Code.Word} {signature : List ℕ} {e : Event Question Release LastWord}
       → wordSeen w signature d ≡ event (toldEvent e) → isRelease e ≡ false → Reads ring fields d s
       → Follows ring fields (D.stop w signature d) (M.decides e s)

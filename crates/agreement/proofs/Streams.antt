@@ -5,7 +5,7 @@ use mathlib.Core.List.{List, [], _∷_, _++_}
 use Prim.Native.Nat.{ℕ, _+_}
 use lib.ListN.{drop}
 use Rattle.sections.specs.Reading.{Event, question, message, last, Log}
-use Rattle.sections.specs.Calls.{Call, Word, more, event, misused, Out, standing, standingAt, readCalls}
+use Rattle.sections.specs.Calls.{Call, Reply, more, event, misused, Out, standing, standingAt, readCalls}
 use Rattle.sections.specs.Machine.{State, running, turn, runFrom, runCalls}
 use Rattle.sections.specs.Resuming.{heard, request, Resumes, entry, placed, events, answersHeard, Tracks, bytesTaken, endHeard}
 use Rattle.sections.proofs.Cutting.{calls-agree, stream-agrees}
@@ -13,8 +13,8 @@ use Rattle.sections.proofs.Histories.{run-took}
 use Rattle.stream.specs.Events.{Question, Release, LastWord}
 use Rattle.stream.specs.Ring.{Ring}
 use Rattle.stream.specs.Stream.{Context, head, rules, plainReading}
-use Rattle.agreement.specs.Shown.{Told, outs}
-use Rattle.agreement.specs.Plain.{toldEvent, toldWord, toldLog, Handed, nothing, handedAfter, showing, plainlyShown}
+use Rattle.agreement.specs.Observation.{Told, outs}
+use Rattle.agreement.specs.Plain.{toldEvent, toldWord, toldLog, Handed, nothing, handedAfter, traceFrom, plainTrace}
 
 abbrev Outs : Type 0
 Outs = List (Out Question Release LastWord)
@@ -25,14 +25,14 @@ toldOuts [] = []
 toldOuts (o ∷ os) = (toldWord (o .0), o .1) ∷ toldOuts os
 
 outs-told : (ring : Ring) (ks : List Call) (h : Handed) (s : State Context Release LastWord)
-    → outs (showing h ks (runFrom (rules ring) s ks)) ≡ toldOuts (runFrom (rules ring) s ks)
-unfolding outs showing runFrom
+    → outs (traceFrom h ks (runFrom (rules ring) s ks)) ≡ toldOuts (runFrom (rules ring) s ks)
+unfolding outs traceFrom runFrom
 outs-told ring [] h s = refl
 outs-told ring (k ∷ ks) h s =
     let t = turn (rules ring) s k in
     λ i. (toldWord (t .0 .0), t .0 .1) ∷ outs-told ring ks (handedAfter h (request k) (t .0 .0)) (t .1) i
 
-heard-told : (w : Word Question Release LastWord) → heard (toldWord w) ≡ heard w
+heard-told : (w : Reply Question Release LastWord) → heard (toldWord w) ≡ heard w
 heard-told more = refl
 heard-told (event e) = refl
 heard-told (misused n) = refl
@@ -66,7 +66,7 @@ unfolding toldLog
 log-append [] m = refl
 log-append (x ∷ l) m = ap (λ (t : Log Question Told LastWord). (x .0, toldEvent (x .1)) ∷ t) (log-append l m)
 
-entry-told : (at : ℕ) (w : Word Question Release LastWord) → entry at (toldWord w) ≡ toldLog (entry at w)
+entry-told : (at : ℕ) (w : Reply Question Release LastWord) → entry at (toldWord w) ≡ toldLog (entry at w)
 unfolding toldLog
 entry-told at more = refl
 entry-told at (event e) = refl
@@ -95,15 +95,15 @@ tracks-told {log} {whole} t =
       complete = λ e. ap toldLog (t .complete (sym (standing-told log) ∙ e));
     }
 
-outs-run : (ring : Ring) (ks : List Call) → outs (showing nothing ks (readCalls (rules ring) head ks)) ≡ toldOuts (runCalls (rules ring) head ks)
+outs-run : (ring : Ring) (ks : List Call) → outs (traceFrom nothing ks (readCalls (rules ring) head ks)) ≡ toldOuts (runCalls (rules ring) head ks)
 unfolding runCalls
 outs-run ring ks = rw (← calls-agree (rules ring) head ks) (outs-told ring ks nothing (running head []))
 
 -- THE STREAM: where the pieces go on through the stream S from the first byte not taken, and the end is told only once all is taken,
 -- what is shown of the events, with their places, is a beginning of the plain reading of S, and all of it once a last word has come
-pub shown-tracks : (ring : Ring) (S : List ℕ) (ks : List Call) → Resumes S ks (outs (plainlyShown ring ks))
-    → Tracks (events (outs (plainlyShown ring ks))) (toldLog (plainReading ring S (answersHeard ks (outs (plainlyShown ring ks))) true))
-unfolding plainlyShown plainReading
+pub shown-tracks : (ring : Ring) (S : List ℕ) (ks : List Call) → Resumes S ks (outs (plainTrace ring ks))
+    → Tracks (events (outs (plainTrace ring ks))) (toldLog (plainReading ring S (answersHeard ks (outs (plainTrace ring ks))) true))
+unfolding plainTrace plainReading
 shown-tracks ring S ks r =
     let os = runCalls (rules ring) head ks in
     let e = outs-run ring ks in
@@ -112,15 +112,15 @@ shown-tracks ring S ks r =
 
 -- WHAT WAS TAKEN: the events shown are the plain reading of the bytes taken, the answers heard and the end told.
 pub shown-took : (ring : Ring) (ks : List Call)
-    → events (outs (plainlyShown ring ks))
-    ≡ toldLog (plainReading ring (bytesTaken ks (outs (plainlyShown ring ks))) (answersHeard ks (outs (plainlyShown ring ks))) (endHeard ks (outs (plainlyShown ring ks))))
-unfolding plainlyShown plainReading
+    → events (outs (plainTrace ring ks))
+    ≡ toldLog (plainReading ring (bytesTaken ks (outs (plainTrace ring ks))) (answersHeard ks (outs (plainTrace ring ks))) (endHeard ks (outs (plainTrace ring ks))))
+unfolding plainTrace plainReading
 shown-took ring ks =
     let os = runCalls (rules ring) head ks in
     let e = outs-run ring ks in
     rw (e, answers-told ks os, bytes-told ks os, end-told ks os, placed-told 0 os) (ap toldLog (run-took (rules ring) head ks))
 
 -- THE EVENTS SHOWN are those of the machine's run, told.
-pub shown-events : (ring : Ring) (ks : List Call) → events (outs (plainlyShown ring ks)) ≡ toldLog (events (runCalls (rules ring) head ks))
-unfolding plainlyShown
+pub shown-events : (ring : Ring) (ks : List Call) → events (outs (plainTrace ring ks)) ≡ toldLog (events (runCalls (rules ring) head ks))
+unfolding plainTrace
 shown-events ring ks = rw (outs-run ring ks) (placed-told 0 (runCalls (rules ring) head ks))

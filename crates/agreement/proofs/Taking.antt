@@ -9,26 +9,26 @@ use lib.ListN.{length}
 use Rattle.ring.specs.Keys.{ringOf}
 use Rattle.ring.specs.declared.KeyRing.{KeyRing}
 use Rattle.sections.specs.Calls.{feed}
-use Rattle.state.specs.Desk.{Desk, Next, on, stop}
+use Rattle.state.specs.Configuration.{Configuration, Next, on, stop}
 use Rattle.state.specs.Run.{follow, runOf}
-use Rattle.calls.specs.Call.{isReading, recalled}
+use Rattle.calls.specs.Response.{isReading, recalled}
 use Rattle.reader.specs.Feed.{pushByte, fed, takenFrom, feedOf}
 use Rattle.agreement.specs.Due.{Between}
 use Rattle.agreement.specs.Loans.{loanFits}
 use Rattle.agreement.proofs.Rooms.{loan-same}
 
 -- of a run over xs, under any rule of bytes, with t bytes taken before
-run-takes : (push : Desk → ℕ → Next) (d : Desk) (t : ℕ) (xs : List ℕ) → Between t (t + length xs) (fed (runOf push d t xs) .taken)
+run-takes : (push : Configuration → ℕ → Next) (d : Configuration) (t : ℕ) (xs : List ℕ) → Between t (t + length xs) (fed (runOf push d t xs) .taken)
 unfolding runOf
 run-takes push d t [] = record { least = omega arith; most = omega arith }
 run-takes push d t (x ∷ xs) = by (push d x) (λ d′. run-takes push d′ (t + 1) xs)
   where
-    by : (n : Next) → ((d′ : Desk) → Between (t + 1) (t + 1 + length xs) (fed (runOf push d′ (t + 1) xs) .taken))
+    by : (n : Next) → ((d′ : Configuration) → Between (t + 1) (t + 1 + length xs) (fed (runOf push d′ (t + 1) xs) .taken))
         → Between t (t + length (x ∷ xs)) (fed (follow n (t + 1) (λ d′. runOf push d′ (t + 1) xs)) .taken)
     by (on d′) ih = record { least = omega (arith, ih d′ .least); most = omega (arith, ih d′ .most) }
     by (stop w signature d′) ih = record { least = omega arith; most = omega arith }
 
-some-taken : (push : Desk → ℕ → Next) (d : Desk) (x : ℕ) (xs : List ℕ) → Between 1 (length (x ∷ xs)) (fed (runOf push d 0 (x ∷ xs)) .taken)
+some-taken : (push : Configuration → ℕ → Next) (d : Configuration) (x : ℕ) (xs : List ℕ) → Between 1 (length (x ∷ xs)) (fed (runOf push d 0 (x ∷ xs)) .taken)
 unfolding runOf
 some-taken push d x xs = by (push d x)
   where
@@ -37,7 +37,7 @@ some-taken push d x xs = by (push d x)
     by (stop w signature d′) = record { least = omega arith; most = omega arith }
 
 -- A FEED of a piece that is not empty, and that is due, takes a byte or more, in any state.
-pub feed-takes : (keys : KeyRing) (d : Desk) (x : ℕ) (xs : List ℕ) → loanFits (d .head) (d .block) (d .question) keys (feed (x ∷ xs)) ≡ true
+pub feed-takes : (keys : KeyRing) (d : Configuration) (x : ℕ) (xs : List ℕ) → loanFits (d .head) (d .block) (d .question) keys (feed (x ∷ xs)) ≡ true
     → isReading (d .reader .phase) ≡ true → Between 1 (length (x ∷ xs)) (feedOf keys d (x ∷ xs) .taken)
 unfolding feedOf takenFrom
 feed-takes keys d x xs e r = rw (loan-same (d .head) (d .block) (d .question) keys (feed (x ∷ xs)) ∙ e, r) (some-taken (pushByte (ringOf keys)) (recalled d) x xs)

@@ -2,13 +2,12 @@
 -- Assumes nothing.
 use mathlib.Core.Bool.{Bool, true, false}
 use Prim.Native.Nat.{ℕ, _≤_}
-use Rattle.sections.specs.Calls.{Request, feed, answer, end}
+use Rattle.sections.specs.Calls.{isOfCall, Request, feed, answer, end}
 use Rattle.state.specs.declared.phase.Phase.{Phase}
 use Rattle.state.specs.declared.phase.Phase.the-variants as P
 use Rattle.state.specs.declared.word.Word as Code
 use Rattle.state.specs.declared.word.Word.the-variants as W
-use Rattle.calls.specs.Call.{isReading}
-use Rattle.agreement.specs.Run.{isOfCall}
+use Rattle.calls.specs.Response.{isReading}
 
 -- a question is open
 abbrev pub isAsking : Phase → Bool

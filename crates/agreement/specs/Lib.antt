@@ -1,4 +1,4 @@
-pub mod Shown
+pub mod Observation
 pub mod Plain
 pub mod Loans
 pub mod Run

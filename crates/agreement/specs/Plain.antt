@@ -4,15 +4,15 @@ use mathlib.Core.List.{List, [], _∷_}
 use Prim.Native.Nat.{ℕ}
 use lib.ListN.{length}
 use Rattle.sections.specs.Reading.{Event, question, message, last, Log}
-use Rattle.sections.specs.Calls.{Request, feed, answer, end, Call, Word, more, event, misused, Out, readCalls}
+use Rattle.sections.specs.Calls.{Request, feed, answer, end, Call, Reply, more, event, misused, Out, readCalls}
 use Rattle.sections.specs.Resuming.{request}
 use Rattle.stream.specs.Events.{Question, Release, headAccepted, block, LastWord}
 use Rattle.stream.specs.Fields.{valueOf}
 use Rattle.stream.specs.Lines.{Field}
 use Rattle.stream.specs.Ring.{Ring}
 use Rattle.stream.specs.Stream.{head, rules}
-use Rattle.agreement.specs.Shown.{Told, Shown}
-use Rattle.agreement.specs.Shown as S
+use Rattle.agreement.specs.Observation.{Told, Observation, Trace}
+use Rattle.agreement.specs.Observation as S
 
 -- ---- words
 
@@ -26,7 +26,7 @@ toldEvent (question q) = question q
 toldEvent (message e) = message (told e)
 toldEvent (last l) = last l
 
-abbrev pub toldWord : Word Question Release LastWord → Word Question Told LastWord
+abbrev pub toldWord : Reply Question Release LastWord → Reply Question Told LastWord
 toldWord more = more
 toldWord (event e) = event (toldEvent e)
 toldWord (misused n) = misused n
@@ -54,7 +54,7 @@ blockLeft (answer good) b = b
 blockLeft end b = []
 
 -- *block* hands its bytes out, and *head accepted* the signed fields, for good; a call refused by 1 or 2 changes nothing
-abbrev pub handedAfter : Handed → Request → Word Question Release LastWord → Handed
+abbrev pub handedAfter : Handed → Request → Reply Question Release LastWord → Handed
 handedAfter h r more = record { released = blockLeft r (h .released); signed = h .signed }
 handedAfter h r (event (question q)) = record { released = blockLeft r (h .released); signed = h .signed }
 handedAfter h r (event (message (headAccepted status fields))) = record { released = blockLeft r (h .released); signed = fields }
@@ -64,15 +64,15 @@ handedAfter h r (misused n) = h
 
 -- ---- calls
 
-abbrev pub shows : Handed → Out Question Release LastWord → Shown
-shows h o = record { out = (toldWord (o .0), o .1); block = h .released; value = λ name. valueOf name (h .signed) }
+abbrev pub observes : Handed → Out Question Release LastWord → Observation
+observes h o = record { out = (toldWord (o .0), o .1); block = h .released; value = λ name. valueOf name (h .signed) }
 
 -- what is shown of one call after the other, where h is handed out before them
-unfoldable pub showing : Handed → List Call → List (Out Question Release LastWord) → List Shown
-showing h [] os = []
-showing h (k ∷ ks) [] = []
-showing h (k ∷ ks) (o ∷ os) = shows (handedAfter h (request k) (o .0)) o ∷ showing (handedAfter h (request k) (o .0)) ks os
+unfoldable pub traceFrom : Handed → List Call → List (Out Question Release LastWord) → Trace
+traceFrom h [] os = []
+traceFrom h (k ∷ ks) [] = []
+traceFrom h (k ∷ ks) (o ∷ os) = observes (handedAfter h (request k) (o .0)) o ∷ traceFrom (handedAfter h (request k) (o .0)) ks os
 
 -- what the plain reading shows of a list of calls
-unfoldable pub plainlyShown : Ring → List Call → List Shown
-plainlyShown ring ks = showing nothing ks (readCalls (rules ring) head ks)
+unfoldable pub plainTrace : Ring → List Call → Trace
+plainTrace ring ks = traceFrom nothing ks (readCalls (rules ring) head ks)

@@ -1,77 +1,74 @@
 -- A list of calls of the reader, from a fresh one, and what a caller sees of each: the functions that the contracts of `feed`,
 -- `answer`, `end`, `block_part` and `field_part` name, and nothing else. Assumes nothing.
 use mathlib.Core.Path.{_≡_}
-use mathlib.Core.Bool.{Bool, false, _||_}
+use mathlib.Core.Bool.{Bool, false}
 use mathlib.Core.List.{List, [], _∷_}
 use Prim.Native.Nat.{ℕ}
-use lib.Dec.{eqb, leb}
+use lib.Dec.{leb}
 use lib.ListN.{length, take}
 use Rattle.octets.specs.Choice.{pick}
 use Rattle.ring.specs.declared.KeyRing.{KeyRing}
 use Rattle.sections.specs.Reading.{question, message, last}
-use Rattle.sections.specs.Calls.{Request, feed, answer, end, Word, more, event, misused}
+use Rattle.sections.specs.Calls.{isOfCall, Request, feed, answer, end, Reply, more, event, misused}
 use Rattle.sections.specs.Calls as S
 use Rattle.stream.specs.Events.{Question, LastWord, closed, refused}
 use Rattle.handing.specs.Handing.{handedValue}
-use Rattle.state.specs.Desk.{Desk, desk, freshReader}
+use Rattle.state.specs.Configuration.{Configuration, configuration, freshReader}
 use Rattle.state.specs.declared.word.Word.the-variants as W
 use Rattle.state.specs.declared.word.Word as Code
-use Rattle.calls.specs.Call as R
+use Rattle.calls.specs.Response as R
 use Rattle.reader.specs.Feed.{feedOf}
 use Rattle.calls.specs.Answer.{answerOf, endOf}
 use Rattle.handing.specs.Released.{blockPart}
 use Rattle.agreement.specs.Loans.{loanFits}
-use Rattle.agreement.specs.Shown.{Told, headAccepted, block, Shown}
+use Rattle.agreement.specs.Observation.{Told, headAccepted, block, Observation, Trace}
 
 -- ---- calls
 
 -- A call that is refused with 2 may be lent anything; any other is lent the same buffers as last left, and a feed the same ring.
-pub data Call : Type 0 where
-  same : Request → Call
-  other : (h b q : List ℕ) (ring : KeyRing) (r : Request) → loanFits h b q ring r ≡ false → Call
+pub data Invocation : Type 0 where
+  same : Request → Invocation
+  other : (h b q : List ℕ) (ring : KeyRing) (r : Request) → loanFits h b q ring r ≡ false → Invocation
 
 -- ---- the run
 
 -- one call, by the functions that the contracts name
-abbrev pub called : KeyRing → Desk → Request → R.Call
+abbrev pub called : KeyRing → Configuration → Request → R.Response
 called ring d (feed piece) = feedOf ring d piece
 called ring d (answer good) = answerOf d good
 called ring d end = endOf d
 
 -- the same reader's call with other buffers, which leaves these as they are
-abbrev pub aside : KeyRing → Desk → Desk → Request → R.Call
+abbrev pub aside : KeyRing → Configuration → Configuration → Request → R.Response
 aside ring d lent r =
     let c = called ring lent r in
-    R.call (c .word) (c .taken) (c .signature) (desk (c .after .reader) (d .head) (d .block) (d .question))
+    R.response (c .word) (c .taken) (c .signature) (configuration (c .after .reader) (d .head) (d .block) (d .question))
 
-unfoldable pub runCall : KeyRing → Desk → Call → R.Call
+unfoldable pub runCall : KeyRing → Configuration → Invocation → R.Response
 runCall ring d (same r) = called ring d r
-runCall ring d (other h b q ring′ r misfit) = aside ring′ d (desk (d .reader) h b q) r
+runCall ring d (other h b q ring′ r misfit) = aside ring′ d (configuration (d .reader) h b q) r
 
 -- ---- what a caller sees
 
--- "Refusals 1 and 2 answer a call and are no events"
-abbrev pub isOfCall : ℕ → Bool
-isOfCall n = eqb n 1 || eqb n 2
-
--- any other is final
-abbrev pub refusal : ℕ → Word Question Told LastWord
+-- a refusal that does not answer a call is final
+abbrev pub refusal : ℕ → Reply Question Told LastWord
 refusal n = pick (isOfCall n) (misused n) (event (last (refused n)))
 
 -- what `block_part` and `field_part` hand out
-abbrev pub blockSeen : Desk → List ℕ
+abbrev pub blockSeen : Configuration → List ℕ
 blockSeen d = blockPart (d .block) (d .reader .released)
 
-abbrev pub valueSeen : Desk → List ℕ → List ℕ
+abbrev pub valueSeen : Configuration → List ℕ → List ℕ
 valueSeen d name = handedValue (d .head) (d .reader .fixed .accepted) name
 
--- the message at the front of the question buffer, of so many bytes; a length past the buffer would be no question
-abbrev pub questionSeen : ℕ → ℕ → List ℕ → List ℕ → Word Question Told LastWord
+-- the message at the front of the question buffer, of so many bytes; a length past the buffer is no question, and nothing that a
+-- reading gives
+abbrev pub questionSeen : ℕ → ℕ → List ℕ → List ℕ → Reply Question Told LastWord
 questionSeen n key signature q =
-    pick (leb n (length q)) (event (question (record { message = take n q; signature = signature; keyNumber = key }))) more
+    pick (leb n (length q)) (event (question (record { message = take n q; signature = signature; keyNumber = key }))) (misused 0)
 
 -- the word, with the signature, and the reader and the buffers after the call
-unfoldable pub wordSeen : Code.Word → List ℕ → Desk → Word Question Told LastWord
+unfoldable pub wordSeen : Code.Word → List ℕ → Configuration → Reply Question Told LastWord
 wordSeen W.More signature d = more
 wordSeen (W.Question n key) signature d = questionSeen n key signature (d .question)
 wordSeen (W.Head status) signature d = event (message (headAccepted status (valueSeen d)))
@@ -79,8 +76,8 @@ wordSeen (W.Block offset n) signature d = event (message (block (offset .0) n (b
 wordSeen (W.Closed total) signature d = event (last (closed total))
 wordSeen (W.Refused n) signature d = refusal n
 
-unfoldable pub seen : R.Call → Shown
-seen c =
+unfoldable pub observed : R.Response → Observation
+observed c =
     record {
       out = (wordSeen (c .word) (c .signature) (c .after), c .taken);
       block = blockSeen (c .after);
@@ -88,21 +85,21 @@ seen c =
     }
 
 -- one call after the other, each with the reader and the buffers that the one before left
-unfoldable pub runFrom : KeyRing → Desk → List Call → List Shown
+unfoldable pub runFrom : KeyRing → Configuration → List Invocation → Trace
 runFrom ring d [] = []
-runFrom ring d (k ∷ ks) = seen (runCall ring d k) ∷ runFrom ring (runCall ring d k .after) ks
+runFrom ring d (k ∷ ks) = observed (runCall ring d k) ∷ runFrom ring (runCall ring d k .after) ks
 
 -- a list of calls from a fresh reader, lent buffers of any first content
-unfoldable pub run : KeyRing → List ℕ → List ℕ → List ℕ → List Call → List Shown
-run ring h b q ks = runFrom ring (desk freshReader h b q) ks
+unfoldable pub run : KeyRing → List ℕ → List ℕ → List ℕ → List Invocation → Trace
+run ring h b q ks = runFrom ring (configuration freshReader h b q) ks
 
 -- ---- the same calls, for the plain reading
 
 -- A call asks what it asks; its loan will do or not. The buffers keep their lengths, so the first ones tell.
-abbrev pub plainCall : KeyRing → List ℕ → List ℕ → List ℕ → Call → S.Call
+abbrev pub plainCall : KeyRing → List ℕ → List ℕ → List ℕ → Invocation → S.Call
 plainCall ring h b q (same r) = S.call (loanFits h b q ring r) r
 plainCall ring h b q (other h′ b′ q′ ring′ r misfit) = S.call false r
 
-unfoldable pub plainCalls : KeyRing → List ℕ → List ℕ → List ℕ → List Call → List S.Call
+unfoldable pub plainCalls : KeyRing → List ℕ → List ℕ → List ℕ → List Invocation → List S.Call
 plainCalls ring h b q [] = []
 plainCalls ring h b q (k ∷ ks) = plainCall ring h b q k ∷ plainCalls ring h b q ks

@@ -6,7 +6,7 @@ use native.Mathlib.Nat.{add-zero}
 use native.Mathlib.Omega.{arith}
 use lib.ListN.{length, getD, set, take, drop, length-drop, length-set}
 use lib.Seq.{getD-drop, drop-drop, take-all, take-nil}
-use Rattle.base64.specs.Base64.{first4, joined, highByte, midByte, lowByte, bytesOf}
+use Rattle.base64.specs.Base64.{first4, joinedLetters, highByte, midByte, lowByte, base64Bytes}
 
 -- the first four characters from a place on
 pub first4-from : {A : Type 0} (f : ℕ → ℕ → ℕ → ℕ → A) (t : List ℕ) (i : ℕ)
@@ -17,12 +17,12 @@ first4-from f t i = simp (getD-drop, add-zero)
 abbrev pub three : ℕ → List ℕ
 three g = highByte g ∷ midByte g ∷ lowByte g ∷ []
 
-bytes-three : (n : ℕ) (t : List ℕ) → bytesOf (suc (suc (suc n))) t ≡ three (first4 joined t) ++ bytesOf n (drop 4 t)
-unfolding bytesOf
+bytes-three : (n : ℕ) (t : List ℕ) → base64Bytes (suc (suc (suc n))) t ≡ three (first4 joinedLetters t) ++ base64Bytes n (drop 4 t)
+unfolding base64Bytes
 bytes-three n t = refl
 
-bytes-few : (n : ℕ) (t : List ℕ) → n < 3 → bytesOf n t ≡ take n (three (first4 joined t)) ++ bytesOf 0 (drop 4 t)
-unfolding bytesOf
+bytes-few : (n : ℕ) (t : List ℕ) → n < 3 → base64Bytes n t ≡ take n (three (first4 joinedLetters t)) ++ base64Bytes 0 (drop 4 t)
+unfolding base64Bytes
 bytes-few zero t h = refl
 bytes-few (suc zero) t h = refl
 bytes-few (suc (suc zero)) t h = refl
@@ -31,13 +31,13 @@ bytes-few (suc (suc (suc n))) t h = absurd (omega arith)
 take-three : (n x y z : ℕ) (r : List ℕ) → take (suc (suc (suc n))) (x ∷ y ∷ z ∷ []) ++ r ≡ x ∷ y ∷ z ∷ r
 take-three n x y z r = ap (λ (l : List ℕ). x ∷ y ∷ z ∷ (l ++ r)) (take-nil n)
 
-pub bytes-step : (n : ℕ) (t : List ℕ) → bytesOf n t ≡ take n (three (first4 joined t)) ++ bytesOf (n - 3) (drop 4 t)
+pub bytes-step : (n : ℕ) (t : List ℕ) → base64Bytes n t ≡ take n (three (first4 joinedLetters t)) ++ base64Bytes (n - 3) (drop 4 t)
 bytes-step zero t = bytes-few 0 t (omega arith)
 bytes-step (suc zero) t = bytes-few 1 t (omega arith)
 bytes-step (suc (suc zero)) t = bytes-few 2 t (omega arith)
 bytes-step (suc (suc (suc n))) t =
     let e : suc (suc (suc n)) - 3 ≡ n = omega arith in
-    bytes-three n t ∙ rw e (sym (take-three n _ _ _ (bytesOf n (drop 4 t))))
+    bytes-three n t ∙ rw e (sym (take-three n _ _ _ (base64Bytes n (drop 4 t))))
 
 -- three bytes written at a place, those past the end left out
 put-three : (l : List ℕ) (o x y z : ℕ)
@@ -51,21 +51,21 @@ put-three (a ∷ l) (suc o) x y z = ap (λ (r : List ℕ). a ∷ r) (put-three l
 
 -- A turn of the loop that writes: a group's bits g, and the buffer after each of its three bytes.
 module _ (t out : List ℕ) (o i : ℕ) {g : ℕ} {p q r : List ℕ}
-    (bits : g ≡ joined (getD t i 0) (getD t (i + 1) 0) (getD t (i + 2) 0) (getD t (i + 3) 0))
+    (bits : g ≡ joinedLetters (getD t i 0) (getD t (i + 1) 0) (getD t (i + 2) 0) (getD t (i + 3) 0))
     (first : p ≡ set out o (highByte g)) (second : q ≡ set p (o + 1) (midByte g)) (third : r ≡ set q (o + 2) (lowByte g)) where
   pub turn-length : length r ≡ length out
   turn-length = rw (third, second, first, length-set, length-set, length-set)
 
-  pub turn : (n : ℕ) → length out ≡ n → take (o + 3) r ++ bytesOf (n - (o + 3)) (drop (i + 4) t) ≡ take o out ++ bytesOf (n - o) (drop i t)
+  pub turn : (n : ℕ) → length out ≡ n → take (o + 3) r ++ base64Bytes (n - (o + 3)) (drop (i + 4) t) ≡ take o out ++ base64Bytes (n - o) (drop i t)
   turn n whole =
       let e1 : o + 1 ≡ suc o = omega arith in
       let e2 : o + 2 ≡ suc (suc o) = omega arith in
       let e3 : o + 3 ≡ suc (suc (suc o)) = omega arith in
       let l : n - (o + 3) ≡ n - o - 3 = omega arith in
-      rw (bytes-step (n - o) (drop i t), l, third, second, first, e1, e2, e3, put-three, append-assoc, length-drop, whole, bits, first4-from joined, drop-drop)
+      rw (bytes-step (n - o) (drop i t), l, third, second, first, e1, e2, e3, put-three, append-assoc, length-drop, whole, bits, first4-from joinedLetters, drop-drop)
 
-pub turns-end : (t out : List ℕ) (o i n : ℕ) → length out ≡ n → n ≤ o → take o out ++ bytesOf (n - o) (drop i t) ≡ out
-unfolding bytesOf
+pub turns-end : (t out : List ℕ) (o i n : ℕ) → length out ≡ n → n ≤ o → take o out ++ base64Bytes (n - o) (drop i t) ≡ out
+unfolding base64Bytes
 turns-end t out o i n whole h =
     let z : n - o ≡ 0 = omega arith in
     let l : length out ≤ o = omega arith in

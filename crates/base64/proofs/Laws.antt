@@ -8,21 +8,21 @@ use native.Mathlib.Omega.{arith}
 use lib.Dec.{eqb, leb}
 use lib.ListN.{length, getD, drop, length-drop}
 use Rattle.octets.specs.Choice.{pick}
-use Rattle.base64.specs.Base64.{first4, holdsOne, holdsTwo, holdsThree, isText, bytesOf}
+use Rattle.base64.specs.Base64.{first4, holdsOne, holdsTwo, holdsThree, isBase64, base64Bytes}
 use Rattle.base64.specs.Decoding.{Decoded, answered, decoded}
 use Rattle.base64.proofs.Computed.{both-left, both-right}
 
 -- n bytes are n bytes
-pub bytes-length : (n : ℕ) (t : List ℕ) → length (bytesOf n t) ≡ n
-unfolding bytesOf
+pub bytes-length : (n : ℕ) (t : List ℕ) → length (base64Bytes n t) ≡ n
+unfolding base64Bytes
 bytes-length zero t = refl
 bytes-length (suc zero) t = refl
 bytes-length (suc (suc zero)) t = refl
 bytes-length (suc (suc (suc n))) t = ap (λ (k : ℕ). suc (suc (suc k))) (bytes-length n (drop 4 t))
 
 -- each of them is below 256
-pub bytes-below : (n : ℕ) (t : List ℕ) (i : ℕ) → getD (bytesOf n t) i 0 < 256
-unfolding bytesOf
+pub bytes-below : (n : ℕ) (t : List ℕ) (i : ℕ) → getD (base64Bytes n t) i 0 < 256
+unfolding base64Bytes
 bytes-below zero t i = omega arith
 bytes-below (suc zero) t zero = omega arith
 bytes-below (suc zero) t (suc i) = omega arith
@@ -35,38 +35,38 @@ bytes-below (suc (suc (suc n))) t (suc (suc zero)) = omega arith
 bytes-below (suc (suc (suc n))) t (suc (suc (suc i))) = bytes-below n (drop 4 t) i
 
 -- a text of n bytes has four characters for each three of them, begun or whole
-pub text-length : (n : ℕ) (t : List ℕ) → isText n t ≡ true → length t ≡ (n + 2) / 3 * 4
-unfolding isText
+pub text-length : (n : ℕ) (t : List ℕ) → isBase64 n t ≡ true → length t ≡ (n + 2) / 3 * 4
+unfolding isBase64
 text-length zero t h = eqb-true _ _ h
 text-length (suc zero) t h = eqb-true _ _ (both-left (eqb (length t) 4) (first4 holdsOne t) h)
 text-length (suc (suc zero)) t h = eqb-true _ _ (both-left (eqb (length t) 4) (first4 holdsTwo t) h)
 text-length (suc (suc (suc n))) t h =
     let w = leb 4 (length t) && first4 holdsThree t in
-    let l = both-left (leb 4 (length t)) (first4 holdsThree t) (both-left w (isText n (drop 4 t)) h) in
-    let r = text-length n (drop 4 t) (both-right w (isText n (drop 4 t)) h) in
+    let l = both-left (leb 4 (length t)) (first4 holdsThree t) (both-left w (isBase64 n (drop 4 t)) h) in
+    let r = text-length n (drop 4 t) (both-right w (isBase64 n (drop 4 t)) h) in
     omega (arith, leb-true 4 (length t) l, length-drop 4 t, r)
 
 -- decoding, by what the text is
-pub decoded-text : (n : ℕ) (t buffer : List ℕ) → isText n t ≡ true → decoded n t buffer ≡ answered true (bytesOf n t)
+pub decoded-text : (n : ℕ) (t buffer : List ℕ) → isBase64 n t ≡ true → decoded n t buffer ≡ answered true (base64Bytes n t)
 unfolding decoded
 decoded-text n t buffer h = rw h
 
-pub decoded-other : (n : ℕ) (t buffer : List ℕ) → isText n t ≡ false → decoded n t buffer ≡ answered false buffer
+pub decoded-other : (n : ℕ) (t buffer : List ℕ) → isBase64 n t ≡ false → decoded n t buffer ≡ answered false buffer
 unfolding decoded
 decoded-other n t buffer h = rw h
 
 -- what a caller learns of the answer and the buffer from a contract, `answered ok after ≡ decoded n t before`
 module _ (n : ℕ) (t before : List ℕ) {ok : Bool} {after : List ℕ} (said : answered ok after ≡ decoded n t before) where
-  pub answer-is : ok ≡ isText n t
+  pub answer-is : ok ≡ isBase64 n t
   unfolding decoded
-  answer-is = ap (λ (d : Decoded). d .ok) said ∙ by-test (isText n t)
+  answer-is = ap (λ (d : Decoded). d .ok) said ∙ by-test (isBase64 n t)
     where
-      by-test : (b : Bool) → pick b (answered true (bytesOf n t)) (answered false before) .ok ≡ b
+      by-test : (b : Bool) → pick b (answered true (base64Bytes n t)) (answered false before) .ok ≡ b
       by-test true = refl
       by-test false = refl
 
-  pub buffer-read : isText n t ≡ true → after ≡ bytesOf n t
+  pub buffer-read : isBase64 n t ≡ true → after ≡ base64Bytes n t
   buffer-read h = ap (λ (d : Decoded). d .buffer) (said ∙ decoded-text n t before h)
 
-  pub buffer-kept : isText n t ≡ false → after ≡ before
+  pub buffer-kept : isBase64 n t ≡ false → after ≡ before
   buffer-kept h = ap (λ (d : Decoded). d .buffer) (said ∙ decoded-other n t before h)

@@ -5,7 +5,7 @@ use mathlib.Core.Path.{_≡_, refl}
 use Prim.Native.Nat.{ℕ, _+_, _-_, _≤_, _<_}
 use lib.Dec.{eqb, leb}
 use Rattle.octets.specs.Choice.{pick}
-use Rattle.base64.specs.Base64.{valueOf}
+use Rattle.base64.specs.Base64.{letterValue}
 use Rattle.base64.proofs.Computed.{both-left, below}
 
 abbrev pub byRange : ℕ → ℕ
@@ -17,11 +17,11 @@ byRange b =
     (pick (eqb b 47) 63 64))))
 
 same : ℕ → Bool
-same b = eqb (byRange b) (valueOf b)
+same b = eqb (byRange b) (letterValue b)
 
 -- one test, computed at each byte
-pub range-value : (b : ℕ) → b < 256 → byRange b ≡ valueOf b
-unfolding same valueOf
+pub range-value : (b : ℕ) → b < 256 → byRange b ≡ letterValue b
+unfolding same letterValue
 range-value b h = eqb-true _ _ (below same 256 refl b h)
 
 -- a byte in a range is not below it

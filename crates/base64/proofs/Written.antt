@@ -8,7 +8,7 @@ use native.Mathlib.Omega.{arith}
 use lib.Dec.{ltb}
 use lib.ListN.{length}
 use lib.Pow.{areBytes}
-use Rattle.base64.specs.Base64.{padding, letterOf, textOf, holdsOne, holdsTwo, holdsThree, joined, highByte, midByte, lowByte, isText, bytesOf}
+use Rattle.base64.specs.Base64.{padCharacter, letterOf, textOf, holdsOne, holdsTwo, holdsThree, joinedLetters, highByte, midByte, lowByte, isBase64, base64Bytes}
 use Rattle.base64.proofs.Computed.{both-left, both-right}
 use Rattle.base64.proofs.Values.{value-letter, is-letter, sextet-letter, padding-zero, cons-eq}
 
@@ -17,25 +17,25 @@ three-hold : (a b c d : ℕ) → a < 64 → b < 64 → c < 64 → d < 64 → hol
 unfolding holdsThree
 three-hold a b c d ha hb hc hd = rw (is-letter a ha, is-letter b hb, is-letter c hc, is-letter d hd)
 
-two-hold : (a b c : ℕ) → a < 64 → b < 64 → c < 64 → c % 4 ≡ 0 → holdsTwo (letterOf a) (letterOf b) (letterOf c) padding ≡ true
+two-hold : (a b c : ℕ) → a < 64 → b < 64 → c < 64 → c % 4 ≡ 0 → holdsTwo (letterOf a) (letterOf b) (letterOf c) padCharacter ≡ true
 unfolding holdsTwo
 two-hold a b c ha hb hc z = rw (is-letter a ha, is-letter b hb, is-letter c hc, value-letter c hc, z)
 
-one-holds : (a b : ℕ) → a < 64 → b < 64 → b % 16 ≡ 0 → holdsOne (letterOf a) (letterOf b) padding padding ≡ true
+one-holds : (a b : ℕ) → a < 64 → b < 64 → b % 16 ≡ 0 → holdsOne (letterOf a) (letterOf b) padCharacter padCharacter ≡ true
 unfolding holdsOne
 one-holds a b ha hb z = rw (is-letter a ha, is-letter b hb, value-letter b hb, z)
 
 three-join : (a b c d : ℕ) → a < 64 → b < 64 → c < 64 → d < 64
-    → joined (letterOf a) (letterOf b) (letterOf c) (letterOf d) ≡ ((a * 64 + b) * 64 + c) * 64 + d
-unfolding joined
+    → joinedLetters (letterOf a) (letterOf b) (letterOf c) (letterOf d) ≡ ((a * 64 + b) * 64 + c) * 64 + d
+unfolding joinedLetters
 three-join a b c d ha hb hc hd = rw (sextet-letter a ha, sextet-letter b hb, sextet-letter c hc, sextet-letter d hd)
 
-two-join : (a b c : ℕ) → a < 64 → b < 64 → c < 64 → joined (letterOf a) (letterOf b) (letterOf c) padding ≡ ((a * 64 + b) * 64 + c) * 64 + 0
-unfolding joined
+two-join : (a b c : ℕ) → a < 64 → b < 64 → c < 64 → joinedLetters (letterOf a) (letterOf b) (letterOf c) padCharacter ≡ ((a * 64 + b) * 64 + c) * 64 + 0
+unfolding joinedLetters
 two-join a b c ha hb hc = rw (sextet-letter a ha, sextet-letter b hb, sextet-letter c hc, padding-zero)
 
-one-joins : (a b : ℕ) → a < 64 → b < 64 → joined (letterOf a) (letterOf b) padding padding ≡ ((a * 64 + b) * 64 + 0) * 64 + 0
-unfolding joined
+one-joins : (a b : ℕ) → a < 64 → b < 64 → joinedLetters (letterOf a) (letterOf b) padCharacter padCharacter ≡ ((a * 64 + b) * 64 + 0) * 64 + 0
+unfolding joinedLetters
 one-joins a b ha hb = rw (sextet-letter a ha, sextet-letter b hb, padding-zero)
 
 -- three bytes as four values of six bits
@@ -47,13 +47,13 @@ parts : (x y z : ℕ) → x < 256 → y < 256 → z < 256
 parts x y z hx hy hz = (omega arith, omega arith, omega arith)
 
 -- a group before a text
-group-text : (n a b c d : ℕ) (t : List ℕ) → holdsThree a b c d ≡ true → isText n t ≡ true → isText (suc (suc (suc n))) (a ∷ b ∷ c ∷ d ∷ t) ≡ true
-unfolding isText
+group-text : (n a b c d : ℕ) (t : List ℕ) → holdsThree a b c d ≡ true → isBase64 n t ≡ true → isBase64 (suc (suc (suc n))) (a ∷ b ∷ c ∷ d ∷ t) ≡ true
+unfolding isBase64
 group-text n a b c d t h r = rw (le-leb 4 (suc (suc (suc (suc (length t))))) (omega arith), h) r
 
-group-bytes : (n a b c d g : ℕ) (t : List ℕ) → joined a b c d ≡ g
-    → bytesOf (suc (suc (suc n))) (a ∷ b ∷ c ∷ d ∷ t) ≡ highByte g ∷ midByte g ∷ lowByte g ∷ bytesOf n t
-unfolding bytesOf
+group-bytes : (n a b c d g : ℕ) (t : List ℕ) → joinedLetters a b c d ≡ g
+    → base64Bytes (suc (suc (suc n))) (a ∷ b ∷ c ∷ d ∷ t) ≡ highByte g ∷ midByte g ∷ lowByte g ∷ base64Bytes n t
+unfolding base64Bytes
 group-bytes n a b c d g t e = rw e
 
 -- the bytes at the front of a list
@@ -64,8 +64,8 @@ rest-bytes : (x : ℕ) (r : List ℕ) → areBytes (x ∷ r) ≡ true → areByt
 rest-bytes x r h = both-right (ltb x 256) (areBytes r) h
 
 -- the text of some bytes is a text of as many
-pub text-is : (bs : List ℕ) → areBytes bs ≡ true → isText (length bs) (textOf bs) ≡ true
-unfolding isText textOf
+pub text-is : (bs : List ℕ) → areBytes bs ≡ true → isBase64 (length bs) (textOf bs) ≡ true
+unfolding isBase64 textOf
 text-is [] h = refl
 text-is (x ∷ []) h =
     let hx = first-byte x [] h in
@@ -85,8 +85,8 @@ text-is (x ∷ y ∷ z ∷ r) h =
     (text-is r (rest-bytes z r h''))
 
 -- and is read as these
-pub text-bytes : (bs : List ℕ) → areBytes bs ≡ true → bytesOf (length bs) (textOf bs) ≡ bs
-unfolding bytesOf textOf
+pub text-bytes : (bs : List ℕ) → areBytes bs ≡ true → base64Bytes (length bs) (textOf bs) ≡ bs
+unfolding base64Bytes textOf
 text-bytes [] h = refl
 text-bytes (x ∷ []) h =
     let hx = first-byte x [] h in

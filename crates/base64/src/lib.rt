@@ -2,12 +2,12 @@
 ghost use mathlib.Core.Path.{_≡_};
 ghost use Prim.Native.Nat.{_+_, _*_, _/_, _≤_, _<_};
 ghost use lib.ListN.{length, set};
-ghost use Rattle.base64.specs.Base64.{valueOf, holdsOne, holdsTwo, holdsThree, isText, joined, bytesOf};
+ghost use Rattle.base64.specs.Base64.{letterValue, holdsOne, holdsTwo, holdsThree, isBase64, joinedLetters, base64Bytes};
 ghost use Rattle.base64.specs.Decoding.{answered, decoded};
 
 // A letter's value, and 64 for any other byte.
 fn value(b: u8) -> u32
-    ensures { λ r. ⌜ r ≡ valueOf b ⌝ }
+    ensures { λ r. ⌜ r ≡ letterValue b ⌝ }
 {
     if (b'A' <= b) & (b <= b'Z') {
         return (b - b'A') as u32;
@@ -51,7 +51,7 @@ fn holds_one(a: u8, b: u8, c: u8, d: u8) -> bool
 // Whether text is the end of a text, after the groups of three bytes.
 fn is_end(text: &[u8], left: usize) -> bool
     requires { ⌜ left < 3 ⌝ }
-    ensures { λ r. ⌜ r ≡ isText left (now (text .entry)) ⌝ }
+    ensures { λ r. ⌜ r ≡ isBase64 left (now (text .entry)) ⌝ }
 {
     if left == 0 {
         return text.len() == 0;
@@ -67,7 +67,7 @@ fn is_end(text: &[u8], left: usize) -> bool
 
 // Whether text is the base64 of n bytes.
 fn is_text(text: &[u8], n: usize) -> bool
-    ensures { λ r. ⌜ r ≡ isText n (now (text .entry)) ⌝ }
+    ensures { λ r. ⌜ r ≡ isBase64 n (now (text .entry)) ⌝ }
 {
     let mut left = n;
     let mut i = 0;
@@ -86,7 +86,7 @@ fn is_text(text: &[u8], n: usize) -> bool
 
 // The 24 bits of four characters; padding counts as zeros.
 fn bits(a: u8, b: u8, c: u8, d: u8) -> u32
-    ensures { λ r. ⌜ r ≡ joined a b c d ⌝ }
+    ensures { λ r. ⌜ r ≡ joinedLetters a b c d ⌝ }
 {
     (((value(a) % 64) * 64 + value(b) % 64) * 64 + value(c) % 64) * 64 + value(d) % 64
 }
@@ -103,7 +103,7 @@ fn put(out: &mut [u8], at: usize, b: u8)
 // Writes the bytes that text stands for, a group at a turn.
 fn fill(text: &[u8], out: &mut [u8])
     requires { ⌜ (length (now out) + 2) / 3 * 4 ≤ length (now text) ⌝ }
-    ensures { λ _. ⌜ now (out .exit) ≡ bytesOf (length (now (out .entry))) (now (text .entry)) ⌝ }
+    ensures { λ _. ⌜ now (out .exit) ≡ base64Bytes (length (now (out .entry))) (now (text .entry)) ⌝ }
 {
     let mut o = 0;
     let mut i = 0;

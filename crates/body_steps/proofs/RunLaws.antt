@@ -7,7 +7,7 @@ use Prim.Native.Nat.{ℕ, zero, suc, _+_, _≤_, _<_}
 use borrow.Author.Tests.{lt-leb}
 use lib.ListN.{length, drop, getD}
 use lib.Seq.{drop-cons, paste, paste-zero, paste-suc, length-paste}
-use Rattle.state.specs.Desk.{Desk, desk, inPhase, Next}
+use Rattle.state.specs.Configuration.{Configuration, configuration, inPhase, Next}
 use Rattle.body_steps.specs.Data.{pushData}
 use Rattle.state.specs.Run.{Fed, runOf}
 use Rattle.body_steps.specs.Skip.{runLength, Skip, skipTo, skipped, skippedAt, skippedData}
@@ -16,13 +16,13 @@ use Rattle.state.specs.declared.phase.Phase.the-variants as P
 use Rattle.state.specs.declared.reader.Reader.{Reader}
 
 -- the rule of bytes, in the data phase
-abbrev pub PushesData : (Desk → ℕ → Next) → Type 0
-PushesData push = (d : Desk) (have size x : ℕ) → d .reader .phase ≡ P.Data have size → push d x ≡ pushData d have size x
+abbrev pub PushesData : (Configuration → ℕ → Next) → Type 0
+PushesData push = (d : Configuration) (have size x : ℕ) → d .reader .phase ≡ P.Data have size → push d x ≡ pushData d have size x
 
-module _ (push : Desk → ℕ → Next) (rule : PushesData push) (r : Reader) (h b q xs : List ℕ) (have size t : ℕ) where
+module _ (push : Configuration → ℕ → Next) (rule : PushesData push) (r : Reader) (h b q xs : List ℕ) (have size t : ℕ) where
   -- the reader with n bytes pushed
-  abbrev at : ℕ → Desk
-  at n = desk (inPhase r (P.Data (have + n) size)) h (paste b have xs n) q
+  abbrev at : ℕ → Configuration
+  at n = configuration (inPhase r (P.Data (have + n) size)) h (paste b have xs n) q
 
   abbrev along : ℕ → Fed
   along n = runOf push (at n) (t + n) (drop n xs)
@@ -41,28 +41,28 @@ module _ (push : Desk → ℕ → Next) (rule : PushesData push) (r : Reader) (h
   many-on zero m f s = refl
   many-on (suc n) m f s = many-on n (omega arith) (omega arith) (omega arith) ∙ one-on n (omega arith) (omega arith) (omega arith)
 
-  start : r .phase ≡ P.Data have size → desk r h b q ≡ at 0
+  start : r .phase ≡ P.Data have size → configuration r h b q ≡ at 0
   start e =
       let p : r ≡ inPhase r (P.Data (have + 0) size) = rw (add-zero have, ← e) in
       let b' : b ≡ paste b have xs 0 = paste-zero b have xs in
       cc
 
-  first : r .phase ≡ P.Data have size → runOf push (desk r h b q) t xs ≡ along 0
-  first e = ap (λ (d : Desk). runOf push d t xs) (start e) ∙ ap (λ (k : ℕ). runOf push (at 0) k xs) (sym (add-zero t))
+  first : r .phase ≡ P.Data have size → runOf push (configuration r h b q) t xs ≡ along 0
+  first e = ap (λ (d : Configuration). runOf push d t xs) (start e) ∙ ap (λ (k : ℕ). runOf push (at 0) k xs) (sym (add-zero t))
 
-  data-run : (n : ℕ) → r .phase ≡ P.Data have size → n ≡ runLength have size b xs → runOf push (desk r h b q) t xs ≡ along n
+  data-run : (n : ℕ) → r .phase ≡ P.Data have size → n ≡ runLength have size b xs → runOf push (configuration r h b q) t xs ≡ along n
   data-run zero e k = first e
   data-run (suc n) e k = first e ∙ many-on (suc n) (omega arith) (omega arith) (omega arith)
 
-module _ (push : Desk → ℕ → Next) (rule : PushesData push) (h q : List ℕ) (t : ℕ) (r : Reader) (b xs : List ℕ) where
+module _ (push : Configuration → ℕ → Next) (rule : PushesData push) (h q : List ℕ) (t : ℕ) (r : Reader) (b xs : List ℕ) where
   -- the rest of the piece after a run
   abbrev resumed : Skip → Fed
-  resumed s = runOf push (desk (s .reader) h (s .block) q) (t + s .taken) (drop (s .taken) xs)
+  resumed s = runOf push (configuration (s .reader) h (s .block) q) (t + s .taken) (drop (s .taken) xs)
 
-  none : runOf push (desk r h b q) t xs ≡ resumed (skipTo r 0 b)
+  none : runOf push (configuration r h b q) t xs ≡ resumed (skipTo r 0 b)
   none = rw add-zero
 
-  by-phase : (p : Phase) → r .phase ≡ p → runOf push (desk r h b q) t xs ≡ resumed (skippedAt p r b xs)
+  by-phase : (p : Phase) → r .phase ≡ p → runOf push (configuration r h b q) t xs ≡ resumed (skippedAt p r b xs)
   unfolding skippedAt skippedData
   by-phase (P.Head n) e = none
   by-phase (P.HeadAsked n) e = none
@@ -76,7 +76,7 @@ module _ (push : Desk → ℕ → Next) (rule : PushesData push) (h q : List ℕ
   by-phase (P.Refused n) e = none
 
   -- THE RUN: the piece from here is its rest from where the run leaves the reader
-  pub skip-runs : runOf push (desk r h b q) t xs ≡ runOf push (desk (skipped r b xs .reader) h (skipped r b xs .block) q) (t + skipped r b xs .taken) (drop (skipped r b xs .taken) xs)
+  pub skip-runs : runOf push (configuration r h b q) t xs ≡ runOf push (configuration (skipped r b xs .reader) h (skipped r b xs .block) q) (t + skipped r b xs .taken) (drop (skipped r b xs .taken) xs)
   skip-runs = by-phase (r .phase) refl
 
 module _ (r : Reader) (b xs : List ℕ) where

@@ -10,7 +10,7 @@ use lib.Seq.{paste, take-take}
 use types.Run.{OneOf, miss}
 use Rattle.places.specs.Writing.{placed, wrote}
 use Rattle.places.proofs.WritingLaws.{next-is, bytes-are}
-use Rattle.state.specs.Desk.{inPhase}
+use Rattle.state.specs.Configuration.{inPhase}
 use Rattle.body_steps.specs.Skip.{room, Skip, skipTo, skippedData, skippedAt}
 use Rattle.state.specs.declared.phase.Phase.{Phase}
 use Rattle.state.proofs.phase.Phase.{the-type}

@@ -7,7 +7,7 @@ use lib.ListN.{length, set, getD}
 use Rattle.octets.specs.Choice.{pick}
 use Rattle.stream.specs.Bytes.{same}
 use Rattle.stream.specs.Lines.{crlf}
-use Rattle.state.specs.Desk.{Desk, desk, inPhase, moved, lined, Next, on, refuse}
+use Rattle.state.specs.Configuration.{Configuration, configuration, inPhase, moved, lined, Next, on, refuse}
 use Rattle.state.specs.declared.phase.Phase.{Phase}
 use Rattle.state.specs.declared.phase.Phase.the-variants as P
 
@@ -15,14 +15,14 @@ use Rattle.state.specs.declared.phase.Phase.the-variants as P
 abbrev pub afterData : ℕ → ℕ → Phase
 afterData have size = pick (leb size have) (P.DataEnd 0 size) (P.Data have size)
 
-unfoldable pub pushData : Desk → ℕ → ℕ → ℕ → Next
+unfoldable pub pushData : Configuration → ℕ → ℕ → ℕ → Next
 pushData d have size x =
     pick (leb (length (d .block)) have)
     (refuse 6 have d)
-    (on (desk (inPhase (d .reader) (afterData (have + 1) size)) (d .head) (set (d .block) have x) (d .question)))
+    (on (configuration (inPhase (d .reader) (afterData (have + 1) size)) (d .head) (set (d .block) have x) (d .question)))
 
 -- "judged when both have come": the first byte waits in the line
-unfoldable pub pushDataEnd : Desk → ℕ → ℕ → ℕ → Next
+unfoldable pub pushDataEnd : Configuration → ℕ → ℕ → ℕ → Next
 pushDataEnd d have size x =
     pick (eqb have 0)
     (on (lined d (P.DataEnd 1 size) (set (d .reader .line) 0 x)))

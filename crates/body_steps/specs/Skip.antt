@@ -3,7 +3,7 @@ use mathlib.Core.List.{List}
 use Prim.Native.Nat.{ℕ, _+_, _-_, min}
 use lib.ListN.{length}
 use lib.Seq.{paste}
-use Rattle.state.specs.Desk.{inPhase}
+use Rattle.state.specs.Configuration.{inPhase}
 use Rattle.body_steps.specs.declared.runs.Passed.{Passed}
 use Rattle.state.specs.declared.phase.Phase.{Phase}
 use Rattle.state.specs.declared.phase.Phase.the-variants as P

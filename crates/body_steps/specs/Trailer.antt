@@ -5,12 +5,12 @@ use lib.Dec.{leb}
 use lib.ListN.{length, take, set}
 use Rattle.octets.specs.Choice.{pick}
 use Rattle.stream.specs.Trailer.{isWholeTrailer, isTrailer}
-use Rattle.state.specs.Desk.{Desk, desk, inPhase, moved, Next, on, stop, refuse, noSignature}
+use Rattle.state.specs.Configuration.{Configuration, configuration, inPhase, moved, Next, on, stop, refuse, noSignature}
 use Rattle.state.specs.declared.phase.Phase.the-variants as P
 use Rattle.state.specs.declared.word.Word.the-variants as W
 
 -- the first `have` bytes of the block buffer are the trailer so far
-unfoldable pub trailerGathered : Desk → ℕ → ℕ → Next
+unfoldable pub trailerGathered : Configuration → ℕ → ℕ → Next
 trailerGathered d have total =
     pick (isWholeTrailer (take have (d .block)))
     (pick (isTrailer (take have (d .block)))
@@ -18,11 +18,11 @@ trailerGathered d have total =
     (refuse 6 have d))
     (on d)
 
-unfoldable pub pushTrailer : Desk → ℕ → ℕ → ℕ → Next
+unfoldable pub pushTrailer : Configuration → ℕ → ℕ → ℕ → Next
 pushTrailer d have total x =
     pick (leb (length (d .block)) have)
     (refuse 6 have d)
     (trailerGathered
-    (desk (inPhase (d .reader) (P.Trailer (have + 1) total)) (d .head) (set (d .block) have x) (d .question))
+    (configuration (inPhase (d .reader) (P.Trailer (have + 1) total)) (d .head) (set (d .block) have x) (d .question))
     (have + 1)
     total)

@@ -10,12 +10,12 @@ use state::with_line;
 ghost use mathlib.Core.List.{List};
 ghost use mathlib.Core.Path.{_≡_};
 ghost use Prim.Native.Nat.{ℕ};
-ghost use Rattle.state.specs.Desk.{desk, nextOf};
+ghost use Rattle.state.specs.Configuration.{configuration, nextOf};
 ghost use Rattle.body_steps.specs.Data.{pushData, pushDataEnd};
 
 // A byte of a block's data, of which `have` bytes out of `size` have come. It has no room where the buffer is too short.
 pub fn push_data(r: Reader, block: &mut [u8], have: usize, size: usize, x: u8) -> Stepped
-    ensures { λ s. ⌜ ((h q : List ℕ) → nextOf s h (now (block .exit)) q ≡ pushData (desk r h (now (block .entry)) q) have size x) ⌝ }
+    ensures { λ s. ⌜ ((h q : List ℕ) → nextOf s h (now (block .exit)) q ≡ pushData (configuration r h (now (block .entry)) q) have size x) ⌝ }
 {
     if block.len() <= have {
         return refused(r, block, have, 6);
@@ -30,7 +30,7 @@ pub fn push_data(r: Reader, block: &mut [u8], have: usize, size: usize, x: u8) -
 
 // A byte after a block of `size` bytes. The first is kept, and judged with the second.
 pub fn push_data_end(r: Reader, block: &mut [u8], have: usize, size: usize, x: u8) -> Stepped
-    ensures { λ s. ⌜ ((h q : List ℕ) → nextOf s h (now (block .exit)) q ≡ pushDataEnd (desk r h (now (block .entry)) q) have size x) ⌝ }
+    ensures { λ s. ⌜ ((h q : List ℕ) → nextOf s h (now (block .exit)) q ≡ pushDataEnd (configuration r h (now (block .entry)) q) have size x) ⌝ }
 {
     let mut line = r.line;
     if have == 0 {

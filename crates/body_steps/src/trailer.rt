@@ -11,7 +11,7 @@ ghost use mathlib.Core.Path.{_≡_};
 ghost use Prim.Native.Nat.{ℕ, _≤_};
 ghost use lib.ListN.{length};
 ghost use Rattle.stream.specs.Trailer.{isWholeTrailer};
-ghost use Rattle.state.specs.Desk.{desk, nextOf};
+ghost use Rattle.state.specs.Configuration.{configuration, nextOf};
 ghost use Rattle.body_steps.specs.Trailer.{trailerGathered, pushTrailer};
 
 // A trailer without its end is refused at this many bytes.
@@ -26,7 +26,7 @@ fn is_whole_trailer(text: &[u8]) -> bool
 // With its newest byte, the trailer is the first `have` bytes of the block buffer.
 fn judge_trailer(r: Reader, block: &mut [u8], have: usize, total: u64) -> Stepped
     requires { ⌜ have ≤ length (now block) ⌝ }
-    ensures { λ s. ⌜ ((h q : List ℕ) → nextOf s h (now (block .exit)) q ≡ trailerGathered (desk r h (now (block .entry)) q) have total) ⌝ }
+    ensures { λ s. ⌜ ((h q : List ℕ) → nextOf s h (now (block .exit)) q ≡ trailerGathered (configuration r h (now (block .entry)) q) have total) ⌝ }
 {
     if !is_whole_trailer(&block[0..have]) {
         return said(Word::More, r);
@@ -39,7 +39,7 @@ fn judge_trailer(r: Reader, block: &mut [u8], have: usize, total: u64) -> Steppe
 
 // A byte of the trailer, of which `have` bytes have come, after a body of `total` bytes.
 pub fn push_trailer(r: Reader, block: &mut [u8], have: usize, total: u64, x: u8) -> Stepped
-    ensures { λ s. ⌜ ((h q : List ℕ) → nextOf s h (now (block .exit)) q ≡ pushTrailer (desk r h (now (block .entry)) q) have total x) ⌝ }
+    ensures { λ s. ⌜ ((h q : List ℕ) → nextOf s h (now (block .exit)) q ≡ pushTrailer (configuration r h (now (block .entry)) q) have total x) ⌝ }
 {
     if block.len() <= have {
         return refused(r, block, have, 6);

@@ -10,14 +10,14 @@ use types.Run.{OneOf, miss}
 use Rattle.blocks.specs.Place.{largest}
 use Rattle.blocks.specs.declared.offsets.BlockNumber.{BlockNumber}
 use Rattle.octets.specs.Choice.{pick}
-use Rattle.state.specs.Desk.{Desk, desk, goesOn, nextOf, Next, on, stop, refuse}
+use Rattle.state.specs.Configuration.{Configuration, configuration, goesOn, nextOf, Next, on, stop, refuse}
 use Rattle.state.specs.declared.phase.Phase.{Phase}
 use Rattle.state.specs.declared.phase.Phase.the-variants as P
 use Rattle.state.specs.declared.stepped.Stepped.{Stepped}
 use Rattle.state.specs.declared.word.Word.{Word}
 use Rattle.state.proofs.phase.Phase.{the-type}
 use Rattle.calls.specs.Answer.{answerAt, following}
-use Rattle.calls.specs.Call.{Call, call, given, unchanged}
+use Rattle.calls.specs.Response.{Response, response, given, unchanged}
 
 pub no : {A : Type 0} → _≡_ {A = Bool} false true → A
 no e = absurd (let w : _≡_ {A = ℕ} 0 1 = cc in omega arith)
@@ -28,27 +28,27 @@ abbrev isOn : Next → Bool
 isOn (on d) = true
 isOn (stop w signature d) = false
 
-is-on : (t : Bool) (w : Word) (signature : List ℕ) (d : Desk) → isOn (pick t (on d) (stop w signature d)) ≡ t
+is-on : (t : Bool) (w : Word) (signature : List ℕ) (d : Configuration) → isOn (pick t (on d) (stop w signature d)) ≡ t
 is-on true w signature d = refl
 is-on false w signature d = refl
 
-given-stop : (t : Bool) (w : Word) (signature : List ℕ) (d : Desk) (taken : ℕ) → t ≡ false → given taken (pick t (on d) (stop w signature d)) ≡ call w taken signature d
+given-stop : (t : Bool) (w : Word) (signature : List ℕ) (d : Configuration) (taken : ℕ) → t ≡ false → given taken (pick t (on d) (stop w signature d)) ≡ response w taken signature d
 given-stop true w signature d taken e = no (sym e)
 given-stop false w signature d taken e = refl
 
-pub refused-call : (s : Stepped) (h b q : List ℕ) (n count : ℕ) (d : Desk) → nextOf s h b q ≡ refuse n count d → call (s .word) 0 (s .signature) (desk (s .reader) h b q) ≡ given 0 (refuse n count d)
+pub refused-call : (s : Stepped) (h b q : List ℕ) (n count : ℕ) (d : Configuration) → nextOf s h b q ≡ refuse n count d → response (s .word) 0 (s .signature) (configuration (s .reader) h b q) ≡ given 0 (refuse n count d)
 unfolding refuse
 refused-call s h b q n count d e =
-    let g : goesOn (s .word) ≡ false = sym (is-on (goesOn (s .word)) (s .word) (s .signature) (desk (s .reader) h b q)) ∙ ap isOn e in
-    sym (given-stop (goesOn (s .word)) (s .word) (s .signature) (desk (s .reader) h b q) 0 g) ∙ ap (λ (n : Next). given 0 n) e
+    let g : goesOn (s .word) ≡ false = sym (is-on (goesOn (s .word)) (s .word) (s .signature) (configuration (s .reader) h b q)) ∙ ap isOn e in
+    sym (given-stop (goesOn (s .word)) (s .word) (s .signature) (configuration (s .reader) h b q) 0 g) ∙ ap (λ (n : Next). given 0 n) e
 
 -- ---- by the phase
 
-pub answer-at : (p p' : Phase) (d : Desk) (good : Bool) (c : Call) → p ≡ p' → c ≡ answerAt p' d good → c ≡ answerAt p d good
+pub answer-at : (p p' : Phase) (d : Configuration) (good : Bool) (c : Response) → p ≡ p' → c ≡ answerAt p' d good → c ≡ answerAt p d good
 answer-at p p' d good c e f = f ∙ ap (λ (p : Phase). answerAt p d good) (sym e)
 
 -- all phases but the second and the seventh, by their numbers
-pub no-question : (p : Phase) (d : Desk) (good : Bool) → OneOf (0 ∷ 2 ∷ 3 ∷ 4 ∷ 5 ∷ 6 ∷ 7 ∷ 8 ∷ 9 ∷ []) (tagOf the-type p) → OneOf (0 ∷ 1 ∷ 2 ∷ 3 ∷ 4 ∷ 5 ∷ 7 ∷ 8 ∷ 9 ∷ []) (tagOf the-type p) → unchanged 1 d ≡ answerAt p d good
+pub no-question : (p : Phase) (d : Configuration) (good : Bool) → OneOf (0 ∷ 2 ∷ 3 ∷ 4 ∷ 5 ∷ 6 ∷ 7 ∷ 8 ∷ 9 ∷ []) (tagOf the-type p) → OneOf (0 ∷ 1 ∷ 2 ∷ 3 ∷ 4 ∷ 5 ∷ 7 ∷ 8 ∷ 9 ∷ []) (tagOf the-type p) → unchanged 1 d ≡ answerAt p d good
 unfolding answerAt
 no-question (P.Head n) d good h k = refl
 no-question (P.HeadAsked n) d good h k = absurd (miss (0 ∷ 2 ∷ 3 ∷ 4 ∷ 5 ∷ 6 ∷ 7 ∷ 8 ∷ 9 ∷ []) 1 tt h)

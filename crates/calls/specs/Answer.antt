@@ -4,7 +4,7 @@ use Prim.Native.Nat.{ℕ, _+_, min}
 use Rattle.blocks.specs.Place.{largest}
 use Rattle.blocks.specs.declared.offsets.BlockNumber.{BlockNumber}
 use Rattle.octets.specs.Choice.{pick}
-use Rattle.state.specs.Desk.{Desk, desk, readerAt, pending, refuse}
+use Rattle.state.specs.Configuration.{Configuration, configuration, readerAt, pending, refuse}
 use Rattle.state.specs.declared.phase.Phase.{Phase}
 use Rattle.state.specs.declared.phase.Phase.the-variants as P
 use Rattle.state.specs.declared.reader.Chain.{Chain}
@@ -13,7 +13,7 @@ use Rattle.state.specs.declared.reader.Reader.{Reader}
 use Rattle.state.specs.declared.word.Word.the-variants as W
 use Rattle.line_steps.specs.FirstLine.{announced}
 use Rattle.line_steps.specs.NextLine.{bodyWith, offsetNow}
-use Rattle.calls.specs.Call.{Call, telling, unchanged, given, fits, isReading, recalled}
+use Rattle.calls.specs.Response.{Response, telling, unchanged, given, fits, isReading, recalled}
 
 -- ---- the head's question
 
@@ -27,10 +27,10 @@ abbrev pub accepting : Reader → ℕ → Reader
 accepting r n = readerAt r (P.FirstLine 0) (acceptedFixed (r .fixed) n) (r .chain) (r .released)
 
 -- "A yes gives *head accepted*", "a no gives refusal 10"; nothing is pending
-unfoldable pub headAnswer : ℕ → Desk → Bool → Call
+unfoldable pub headAnswer : ℕ → Configuration → Bool → Response
 headAnswer n d good =
     pick good
-    (telling (W.Head (d .reader .fixed .status)) 0 (desk (accepting (d .reader) n) (d .head) (d .block) (d .question)))
+    (telling (W.Head (d .reader .fixed .status)) 0 (configuration (accepting (d .reader) n) (d .head) (d .block) (d .question)))
     (given 0 (refuse 10 0 d))
 
 -- ---- a block's question
@@ -48,15 +48,15 @@ unfoldable pub releasing : Reader → ℕ → ℕ → Reader
 releasing r size next = readerAt r (announced next (bodyWith r size)) (r .fixed) (followed (r .chain)) size
 
 -- a yes gives "*block* (offset, length)", a no refusal 10, with the block pending
-unfoldable pub blockAnswer : ℕ → ℕ → Desk → Bool → Call
+unfoldable pub blockAnswer : ℕ → ℕ → Configuration → Bool → Response
 blockAnswer size next d good =
     pick good
-    (telling (W.Block (offsetNow (d .reader)) size) 0 (desk (releasing (d .reader) size next) (d .head) (d .block) (d .question)))
+    (telling (W.Block (offsetNow (d .reader)) size) 0 (configuration (releasing (d .reader) size next) (d .head) (d .block) (d .question)))
     (given 0 (refuse 10 size d))
 
 -- ---- the calls
 
-unfoldable pub answerAt : Phase → Desk → Bool → Call
+unfoldable pub answerAt : Phase → Configuration → Bool → Response
 answerAt (P.Head n) d good = unchanged 1 d
 answerAt (P.HeadAsked n) d good = headAnswer n d good
 answerAt (P.FirstLine n) d good = unchanged 1 d
@@ -69,11 +69,11 @@ answerAt (P.Closed total) d good = unchanged 1 d
 answerAt (P.Refused n) d good = unchanged 1 d
 
 -- "2 is tested before 1"; 1 is an "answer with none open"
-unfoldable pub answerOf : Desk → Bool → Call
+unfoldable pub answerOf : Configuration → Bool → Response
 answerOf d good = pick (fits d) (answerAt (d .reader .phase) d good) (unchanged 2 d)
 
 -- 1 is an end "with a question open" or "after a final event", 11 an "end in an unfinished stream"
-unfoldable pub endOf : Desk → Call
+unfoldable pub endOf : Configuration → Response
 endOf d =
     pick (fits d)
     (pick (isReading (d .reader .phase)) (given 0 (refuse 11 (pending (d .reader .phase)) (recalled d))) (unchanged 1 d))

@@ -11,8 +11,8 @@ use state::Word;
 ghost use mathlib.Core.List.{List};
 ghost use mathlib.Core.Path.{_≡_};
 ghost use Prim.Native.Nat.{ℕ};
-ghost use Rattle.state.specs.Desk.{desk};
-ghost use Rattle.calls.specs.Call.{made};
+ghost use Rattle.state.specs.Configuration.{configuration};
+ghost use Rattle.calls.specs.Response.{made};
 ghost use Rattle.calls.specs.Answer.{accepting, following as followingOf, releasing, headAnswer, blockAnswer, answerOf};
 
 const LARGEST: u64 = 0xffff_ffff_ffff_ffff;
@@ -56,7 +56,7 @@ fn released(r: Reader, size: usize, next: usize) -> Reader
 
 // The answer about the head of n bytes. Nothing is pending, so that a refusal clears nothing.
 fn answer_head(r: Reader, n: usize, good: bool) -> Outcome
-    ensures { λ o. ⌜ ((h b q : List ℕ) → made o h b q ≡ headAnswer n (desk r h b q) good) ⌝ }
+    ensures { λ o. ⌜ ((h b q : List ℕ) → made o h b q ≡ headAnswer n (configuration r h b q) good) ⌝ }
 {
     if !good {
         return told(Word::Refused(10), 0, state::in_phase(r, Phase::Refused(10)));
@@ -67,7 +67,7 @@ fn answer_head(r: Reader, n: usize, good: bool) -> Outcome
 
 // The answer about the block of `size` bytes, after whose line `next` bytes follow.
 fn answer_block(r: Reader, block: &mut [u8], size: usize, next: usize, good: bool) -> Outcome
-    ensures { λ o. ⌜ ((h q : List ℕ) → made o h (now (block .exit)) q ≡ blockAnswer size next (desk r h (now (block .entry)) q) good) ⌝ }
+    ensures { λ o. ⌜ ((h q : List ℕ) → made o h (now (block .exit)) q ≡ blockAnswer size next (configuration r h (now (block .entry)) q) good) ⌝ }
 {
     if !good {
         let s = state::refused(r, block, size, 10);
@@ -95,7 +95,7 @@ pub fn answer(
     question: &mut [u8],
     good: bool,
 ) -> Outcome
-    ensures { λ o. ⌜ made o (now (head .exit)) (now (block .exit)) (now (question .exit)) ≡ answerOf (desk r (now (head .entry)) (now (block .entry)) (now (question .entry))) good ⌝ }
+    ensures { λ o. ⌜ made o (now (head .exit)) (now (block .exit)) (now (question .exit)) ≡ answerOf (configuration r (now (head .entry)) (now (block .entry)) (now (question .entry))) good ⌝ }
 {
     if !are_roomy(head.len(), block.len(), question.len()) {
         return unchanged(r, 2);

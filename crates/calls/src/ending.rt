@@ -7,13 +7,13 @@ use crate::outcome::recalled;
 use crate::outcome::unchanged;
 use state::Reader;
 ghost use mathlib.Core.Path.{_≡_};
-ghost use Rattle.state.specs.Desk.{desk};
-ghost use Rattle.calls.specs.Call.{made};
+ghost use Rattle.state.specs.Configuration.{configuration};
+ghost use Rattle.calls.specs.Response.{made};
 ghost use Rattle.calls.specs.Answer.{endOf};
 
 // No bytes will follow: a stream that is not finished is refused, and what is pending in the block buffer is set to zero.
 pub fn end(r: Reader, head: &mut [u8], block: &mut [u8], question: &mut [u8]) -> Outcome
-    ensures { λ o. ⌜ made o (now (head .exit)) (now (block .exit)) (now (question .exit)) ≡ endOf (desk r (now (head .entry)) (now (block .entry)) (now (question .entry))) ⌝ }
+    ensures { λ o. ⌜ made o (now (head .exit)) (now (block .exit)) (now (question .exit)) ≡ endOf (configuration r (now (head .entry)) (now (block .entry)) (now (question .entry))) ⌝ }
 {
     if !are_roomy(head.len(), block.len(), question.len()) {
         return unchanged(r, 2);

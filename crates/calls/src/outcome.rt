@@ -4,8 +4,8 @@ use state::Reader;
 use state::Stepped;
 use state::Word;
 ghost use mathlib.Core.Path.{_≡_};
-ghost use Rattle.state.specs.Desk.{noSignature};
-ghost use Rattle.calls.specs.Call.{areRoomy, isReading, takingBack};
+ghost use Rattle.state.specs.Configuration.{noSignature};
+ghost use Rattle.calls.specs.Response.{areRoomy, isReading, takingBack};
 
 // The least room for a head, and for a question; and for a block.
 const HEAD_ROOM: usize = 8_192;

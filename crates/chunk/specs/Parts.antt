@@ -5,7 +5,7 @@ use mathlib.Core.List.{List, [], _∷_}
 use Prim.Native.Nat.{ℕ, _+_}
 use lib.Dec.{eqb, leb}
 use lib.ListN.{length, drop}
-use Rattle.base64.specs.Base64.{isText as isBase64, bytesOf}
+use Rattle.base64.specs.Base64.{isBase64, base64Bytes}
 use Rattle.octets.specs.Choice.{pick}
 use Rattle.stream.specs.Blocks.{ouisig, isChunkLine, carriesSignature, chunkSize, sameBool}
 use Rattle.stream.specs.Bytes.{isHex}
@@ -38,7 +38,7 @@ isSignature e = startsWith ouisig e && isBase64 64 (drop (length ouisig) e)
 unfoldable pub extensionRead : ℕ → List ℕ → ChunkText
 extensionRead size e =
     pick (isNothing e || isSignature e)
-    (good size (leb 1 (length e)) (pick (leb 1 (length e)) (bytesOf 64 (drop (length ouisig) e)) zeros))
+    (good size (leb 1 (length e)) (pick (leb 1 (length e)) (base64Bytes 64 (drop (length ouisig) e)) zeros))
     wrong
 
 -- the text of a line without its CR LF

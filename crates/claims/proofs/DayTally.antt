@@ -9,16 +9,16 @@ use lib.ListN.{length}
 use Rattle.octets.specs.Choice.{pick}
 use Rattle.ring.specs.declared.KeyRing.{KeyRing}
 use Rattle.sections.specs.Reading.{Event, question, message, last, Log}
-use Rattle.sections.specs.Calls.{Word, more, event, misused}
+use Rattle.sections.specs.Calls.{isOfCall, Reply, more, event, misused}
 use Rattle.sections.specs.Resuming.{entry, placed}
 use Rattle.stream.specs.Events.{Question, Release, headAccepted, block, LastWord, closed, refused}
-use Rattle.state.specs.Desk.{Desk, desk, freshReader}
+use Rattle.state.specs.Configuration.{Configuration, configuration, freshReader}
 use Rattle.state.specs.declared.word.Word as Code
 use Rattle.state.specs.declared.word.Word.the-variants as W
-use Rattle.agreement.specs.Shown.{Told, outs}
-use Rattle.agreement.specs.Shown as S
+use Rattle.agreement.specs.Observation.{Told, outs}
+use Rattle.agreement.specs.Observation as S
 use Rattle.agreement.specs.Plain.{toldEvent, toldLog}
-use Rattle.agreement.specs.Run.{Call, isOfCall, wordSeen, seen, runCall, runFrom, run}
+use Rattle.agreement.specs.Run.{Invocation, wordSeen, observed, runCall, runFrom, run}
 use Rattle.tally.specs.Counting.{noCounts, tallied}
 use Rattle.tally.specs.Counts.{Counts, counts, nothing, together, shown, refusalCounts, eventCounts, countsOf, wordCounts, wordsCount}
 use Rattle.tally.proofs.Totals.{together-assoc, nothing-together, tally-of-words, counts-append}
@@ -33,7 +33,7 @@ eventTold (message (S.block o n b)) = counts 1 n 0 0
 eventTold (last (closed total)) = counts 0 0 1 0
 eventTold (last (refused n)) = refusalCounts n
 
-abbrev wordTold : Word Question Told LastWord → Counts
+abbrev wordTold : Reply Question Told LastWord → Counts
 wordTold more = nothing
 wordTold (event e) = eventTold e
 wordTold (misused n) = nothing
@@ -42,11 +42,11 @@ refusal-counts : (n : ℕ) (t : Bool) → isOfCall n ≡ t → refusalCounts n �
 refusal-counts n true e = rw e
 refusal-counts n false e = refl
 
-question-counts : (t : Bool) (x : Question) → nothing ≡ wordTold (pick t (event (question x)) more)
+question-counts : (t : Bool) (x : Question) → nothing ≡ wordTold (pick t (event (question x)) (misused 0))
 question-counts true x = refl
 question-counts false x = refl
 
-word-seen : (w : Code.Word) (signature : List ℕ) (d : Desk) → wordCounts w ≡ wordTold (wordSeen w signature d)
+word-seen : (w : Code.Word) (signature : List ℕ) (d : Configuration) → wordCounts w ≡ wordTold (wordSeen w signature d)
 unfolding wordCounts wordSeen
 word-seen W.More signature d = refl
 word-seen (W.Question n key) signature d = question-counts (leb n (length (d .question))) _
@@ -62,13 +62,13 @@ logTold [] = nothing
 logTold (x ∷ log) = together (eventTold (x .1)) (logTold log)
 
 -- a word adds to the log what it counts
-entry-counts : (at : ℕ) (w : Word Question Told LastWord) (log : Log Question Told LastWord) → logTold (entry at w ++ log) ≡ together (wordTold w) (logTold log)
+entry-counts : (at : ℕ) (w : Reply Question Told LastWord) (log : Log Question Told LastWord) → logTold (entry at w ++ log) ≡ together (wordTold w) (logTold log)
 entry-counts at more log = sym (nothing-together (logTold log))
 entry-counts at (event e) log = refl
 entry-counts at (misused n) log = sym (nothing-together (logTold log))
 
-words-counted : (keys : KeyRing) (d : Desk) (ks : List Call) (at : ℕ) → wordsCount (wordsFrom keys d ks) ≡ logTold (placed at (outs (runFrom keys d ks)))
-unfolding wordsCount wordsFrom placed outs runFrom seen
+words-counted : (keys : KeyRing) (d : Configuration) (ks : List Invocation) (at : ℕ) → wordsCount (wordsFrom keys d ks) ≡ logTold (placed at (outs (runFrom keys d ks)))
+unfolding wordsCount wordsFrom placed outs runFrom observed
 words-counted keys d [] at = refl
 words-counted keys d (k ∷ ks) at =
     let c = runCall keys d k in
@@ -87,10 +87,10 @@ told-counts (x ∷ log) = rw (one (x .1), told-counts log)
     one (last (closed total)) = refl
     one (last (refused n)) = refl
 
-run-counted : (keys : KeyRing) (h b q : List ℕ) (ks : List Call) → wordsCount (wordsOfRun keys h b q ks) ≡ countsOf (eventsRead keys h b q ks)
+run-counted : (keys : KeyRing) (h b q : List ℕ) (ks : List Invocation) → wordsCount (wordsOfRun keys h b q ks) ≡ countsOf (eventsRead keys h b q ks)
 unfolding wordsOfRun run
 run-counted keys h b q ks =
-    words-counted keys (desk freshReader h b q) ks 0 ∙ ap logTold (demand-3 keys h b q ks .all-taken) ∙ told-counts (eventsRead keys h b q ks)
+    words-counted keys (configuration freshReader h b q) ks 0 ∙ ap logTold (demand-3 keys h b q ks .all-taken) ∙ told-counts (eventsRead keys h b q ks)
 
 -- ---- of a day
 

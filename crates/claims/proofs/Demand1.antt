@@ -15,8 +15,8 @@ use Rattle.sections.specs.Calls.{Request, feed}
 use Rattle.stream.specs.Limits.{headLimit, blockLimit, ringLimit}
 use Rattle.handing.specs.Released.{blockPart}
 use Rattle.handing.proofs.ValueLaws.{room-small}
-use Rattle.state.specs.Desk.{Desk}
-use Rattle.calls.specs.Call.{isReading, unchanged}
+use Rattle.state.specs.Configuration.{Configuration}
+use Rattle.calls.specs.Response.{isReading, unchanged}
 use Rattle.reader.specs.Feed.{feedOf}
 use Rattle.agreement.specs.Due.{isDue, isInHead, isMisuse, Between}
 use Rattle.agreement.specs.Loans.{loanFits}
@@ -26,7 +26,7 @@ use Rattle.agreement.proofs.Misuse.{undue-unchanged, due-fine}
 use Rattle.agreement.proofs.Taking.{feed-takes}
 use Rattle.agreement.proofs.RingUse.{ring-unread}
 
-module _ (keys : KeyRing) (d : Desk) where
+module _ (keys : KeyRing) (d : Configuration) where
   -- REFUSALS 1 AND 2, for every reader, buffers, ring and call: exactly when they come, and that they change nothing: no byte of a
   -- buffer, no part of the reader, and no byte is taken. 2 is tested before 1, and any other call has another word.
   pub record RefusalsChangeNothing (r : Request) : Type 0 where
@@ -53,9 +53,9 @@ module _ (keys : KeyRing) (d : Desk) where
   ring-not-read keys′ piece e f g = ring-unread keys keys′ d piece e f g
 
 -- Too short a buffer hands out nothing, whatever the reader.
-pub short-block : (d : Desk) → length (d .block) < blockLimit → blockSeen d ≡ []
+pub short-block : (d : Configuration) → length (d .block) < blockLimit → blockSeen d ≡ []
 unfolding blockPart
 short-block d h = rw (lt-leb blockLimit (length (d .block)) h)
 
-pub short-head : (d : Desk) (name : List ℕ) → length (d .head) < headLimit → valueSeen d name ≡ []
+pub short-head : (d : Configuration) (name : List ℕ) → length (d .head) < headLimit → valueSeen d name ≡ []
 short-head d name h = room-small (d .head) (d .reader .fixed .accepted) name h

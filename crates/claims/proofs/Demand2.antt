@@ -16,10 +16,10 @@ use Rattle.sections.specs.Reading.{message}
 use Rattle.sections.specs.Resuming.{events}
 use Rattle.stream.specs.Events.{block}
 use Rattle.agreement.specs.Plain.{told, toldLog}
-use Rattle.agreement.specs.Run.{Call}
+use Rattle.agreement.specs.Run.{Invocation}
 use Rattle.exactness.specs.Releases.{ReleasesBlock}
 use Rattle.exactness.specs.ShowEvents.{showEvents}
-use Rattle.exactness.specs.Shows.{WholeShow, streamOf, joined, Honest}
+use Rattle.exactness.specs.Shows.{WholeShow, streamOf, bodyOf, Honest}
 use Rattle.exactness.specs.Telling.{Stands}
 use Rattle.exactness.proofs.Completeness.{show-complete, show-released}
 use Rattle.exactness.proofs.Exactness.{block-exact}
@@ -28,7 +28,7 @@ use Rattle.claims.specs.Runs.{words, taken, answers, ended}
 use Rattle.claims.proofs.Told.{block-told, told-block, body-told}
 use Rattle.claims.proofs.Demand3.{demand-3}
 
-module _ (keys : KeyRing) (h b q : List ℕ) (ks : List Call) where
+module _ (keys : KeyRing) (h b q : List ℕ) (ks : List Invocation) where
   -- EXACTLY THEN: a run shows a block, at an offset of the body and with its bytes as they are handed out, at a place of the stream,
   -- exactly when the bytes that it took begin as the rules ask up to that place, with this block as the last, and the answers that
   -- it heard, up to and with the one about this block, are all yes.
@@ -43,7 +43,7 @@ module _ (keys : KeyRing) (h b q : List ℕ) (ks : List Call) where
   -- from the show, up to closed, and the blocks handed out, joined, are its body.
   pub record ComesOutWhole (s : WholeShow) : Type 0 where
     pub all-events : events (words keys h b q ks) ≡ toldLog (showEvents (ringOf keys) s)
-    pub whole-body : bodyTold (events (words keys h b q ks)) ≡ joined (s .chunks)
+    pub whole-body : bodyTold (events (words keys h b q ks)) ≡ bodyOf (s .chunks)
 
   pub honest-comes-out : (s : WholeShow) (more : List Bool) → Honest (ringOf keys) s
       → taken keys h b q ks ≡ streamOf s → answers keys h b q ks ≡ replicate (suc (length (s .chunks))) true ++ more

@@ -5,7 +5,7 @@
 -- and the key ring `keys`: each call's word with all that it carries, the count taken, the question's message as it lies in the
 -- question buffer, and after the call the released block and the value of every field as they are handed out. It is made of the
 -- functions that the contracts of the code name (crate agreement, Run). A call that is refused with 2 may be lent anything.
--- `plainlyShown` is the same of the plain reading: paper 01, "A list of calls is read so" (crates sections and agreement, Plain).
+-- `plainTrace` is the same of the plain reading: paper 01, "A list of calls is read so" (crates sections and agreement, Plain).
 use mathlib.Core.Path.{_≡_, ap, sym, _∙_}
 use mathlib.Core.Bool.{Bool, true}
 use mathlib.Core.List.{List}
@@ -15,16 +15,16 @@ use Rattle.ring.specs.declared.KeyRing.{KeyRing}
 use Rattle.sections.specs.Calls.{over, standing}
 use Rattle.sections.specs.Resuming.{Resumes, events, Tracks}
 use Rattle.stream.specs.Stream.{plainReading}
-use Rattle.agreement.specs.Plain.{toldLog, plainlyShown}
-use Rattle.agreement.specs.Run.{Call, run, plainCalls}
+use Rattle.agreement.specs.Plain.{toldLog, plainTrace}
+use Rattle.agreement.specs.Run.{Invocation, run, plainCalls}
 use Rattle.agreement.proofs.Lists.{run-shown}
 use Rattle.agreement.proofs.Streams.{shown-tracks, shown-took}
 use Rattle.claims.specs.Runs.{words, taken, answers, ended}
 
-pub record CuttingChangesNothing (keys : KeyRing) (h b q : List ℕ) (ks : List Call) : Type 0 where
+pub record CuttingChangesNothing (keys : KeyRing) (h b q : List ℕ) (ks : List Invocation) : Type 0 where
   -- EVERY LIST OF CALLS, wrongly timed and ill lent ones and empty pieces among them: all that is seen of each call is what the plain
   -- reading gives.
-  pub each-call : run keys h b q ks ≡ plainlyShown (ringOf keys) (plainCalls keys h b q ks)
+  pub each-call : run keys h b q ks ≡ plainTrace (ringOf keys) (plainCalls keys h b q ks)
   -- WHAT WAS TAKEN. The events, each with its place and with what it hands out, are the plain reading of the bytes that were taken, in
   -- one piece, with the answers that were heard.
   pub all-taken : events (words keys h b q ks)
@@ -35,7 +35,7 @@ pub record CuttingChangesNothing (keys : KeyRing) (h b q : List ℕ) (ks : List 
   pub whole-stream : (S : List ℕ) → Resumes S (plainCalls keys h b q ks) (words keys h b q ks)
       → Tracks (events (words keys h b q ks)) (toldLog (plainReading (ringOf keys) S (answers keys h b q ks) true))
 
-pub demand-3 : (keys : KeyRing) (h b q : List ℕ) (ks : List Call) → CuttingChangesNothing keys h b q ks
+pub demand-3 : (keys : KeyRing) (h b q : List ℕ) (ks : List Invocation) → CuttingChangesNothing keys h b q ks
 demand-3 keys h b q ks =
     let e = run-shown keys h b q ks in
     record {
@@ -46,7 +46,7 @@ demand-3 keys h b q ks =
 
 -- HOWEVER IT IS CUT: two runs over one stream, in whatever buffers, with the same ring and answers, that both came to a last word, have
 -- the same events at the same places, and hand out the same blocks and values.
-pub two-cuttings : (keys : KeyRing) (h b q h′ b′ q′ : List ℕ) (S : List ℕ) (ks ls : List Call)
+pub two-cuttings : (keys : KeyRing) (h b q h′ b′ q′ : List ℕ) (S : List ℕ) (ks ls : List Invocation)
     → Resumes S (plainCalls keys h b q ks) (words keys h b q ks) → Resumes S (plainCalls keys h′ b′ q′ ls) (words keys h′ b′ q′ ls)
     → answers keys h b q ks ≡ answers keys h′ b′ q′ ls
     → standing (events (words keys h b q ks)) ≡ over → standing (events (words keys h′ b′ q′ ls)) ≡ over

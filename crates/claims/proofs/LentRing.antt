@@ -10,20 +10,20 @@ use Rattle.ring.specs.declared.KeyRecord.{KeyRecord}
 use Rattle.sections.specs.Calls.{Request, feed, answer, end}
 use Rattle.lent.specs.Table.{keysOf}
 use Rattle.lent.proofs.TableLaws.{feed-lent, count-fits, ring-lent}
-use Rattle.state.specs.Desk.{Desk, desk, freshReader}
-use Rattle.calls.specs.Call as R
+use Rattle.state.specs.Configuration.{Configuration, configuration, freshReader}
+use Rattle.calls.specs.Response as R
 use Rattle.stream.specs.Limits.{ringLimit}
 use Rattle.stream.specs.Stream.{plainReading}
 use Rattle.sections.specs.Resuming.{Resumes, events, answersHeard, Tracks}
-use Rattle.agreement.specs.Shown.{outs}
-use Rattle.agreement.specs.Plain.{toldLog, plainlyShown}
-use Rattle.agreement.specs.Run.{Call, called, runCall, seen, runFrom, run, plainCalls}
+use Rattle.agreement.specs.Observation.{outs}
+use Rattle.agreement.specs.Plain.{toldLog, plainTrace}
+use Rattle.agreement.specs.Run.{Invocation, called, runCall, observed, runFrom, run, plainCalls}
 use Rattle.agreement.specs.Run as Run
 use Rattle.agreement.specs.Loans.{ringFits, loanFits}
 use Rattle.claims.specs.Lent.{tableFits, lentFits, LentCall, same, other, lentCalled, lentRunCall, lentRunFrom, lentRun}
 use Rattle.claims.proofs.Demand3.{demand-3}
 
-called-lent : (records : List KeyRecord) (d : Desk) (r : Request) → lentCalled records d r ≡ called (keysOf records) d r
+called-lent : (records : List KeyRecord) (d : Configuration) (r : Request) → lentCalled records d r ≡ called (keysOf records) d r
 called-lent records d (feed piece) = sym (feed-lent records d piece)
 called-lent records d (answer good) = refl
 called-lent records d end = refl
@@ -38,36 +38,36 @@ unfolding loanFits
 misfit-lent h b q records r e = rw (← fits-lent records r) e
 
 -- the same call, with the ring by value
-abbrev pub byValue : LentCall → Call
+abbrev pub byValue : LentCall → Invocation
 byValue (same r) = Run.same r
 byValue (other h b q records r misfit) = Run.other h b q (keysOf records) r (misfit-lent h b q records r misfit)
 
-abbrev pub allByValue : List LentCall → List Call
+abbrev pub allByValue : List LentCall → List Invocation
 allByValue [] = []
 allByValue (k ∷ ks) = byValue k ∷ allByValue ks
 
-call-lent : (records : List KeyRecord) (d : Desk) (k : LentCall) → lentRunCall records d k ≡ runCall (keysOf records) d (byValue k)
+call-lent : (records : List KeyRecord) (d : Configuration) (k : LentCall) → lentRunCall records d k ≡ runCall (keysOf records) d (byValue k)
 unfolding lentRunCall runCall
 call-lent records d (same r) = called-lent records d r
 call-lent records d (other h b q records′ r misfit) =
-    ap (λ (c : R.Call). R.call (c .word) (c .taken) (c .signature) (desk (c .after .reader) (d .head) (d .block) (d .question)))
-    (called-lent records′ (desk (d .reader) h b q) r)
+    ap (λ (c : R.Response). R.response (c .word) (c .taken) (c .signature) (configuration (c .after .reader) (d .head) (d .block) (d .question)))
+    (called-lent records′ (configuration (d .reader) h b q) r)
 
-run-lent : (records : List KeyRecord) (ks : List LentCall) (d : Desk) → lentRunFrom records d ks ≡ runFrom (keysOf records) d (allByValue ks)
+run-lent : (records : List KeyRecord) (ks : List LentCall) (d : Configuration) → lentRunFrom records d ks ≡ runFrom (keysOf records) d (allByValue ks)
 unfolding lentRunFrom runFrom
 run-lent records [] d = refl
 run-lent records (k ∷ ks) d =
     let e = call-lent records d k in
-    λ i. seen (e i) ∷ (ap (λ (c : R.Call). lentRunFrom records (c .after) ks) e ∙ run-lent records ks (runCall (keysOf records) d (byValue k) .after)) i
+    λ i. observed (e i) ∷ (ap (λ (c : R.Response). lentRunFrom records (c .after) ks) e ∙ run-lent records ks (runCall (keysOf records) d (byValue k) .after)) i
 
 -- A run with lent tables is the run with the ring by value, so that all that is claimed of the one holds of the other.
 pub lent-run : (records : List KeyRecord) (h b q : List ℕ) (ks : List LentCall) → lentRun records h b q ks ≡ run (keysOf records) h b q (allByValue ks)
 unfolding lentRun run
-lent-run records h b q ks = run-lent records ks (desk freshReader h b q)
+lent-run records h b q ks = run-lent records ks (configuration freshReader h b q)
 
 -- Demand 3, once more, with the records that are lent in place of the ring.
 pub record LentRing (records : List KeyRecord) (h b q : List ℕ) (ks : List LentCall) : Type 0 where
-  pub each-call : lentRun records h b q ks ≡ plainlyShown (map trustedOf records) (plainCalls (keysOf records) h b q (allByValue ks))
+  pub each-call : lentRun records h b q ks ≡ plainTrace (map trustedOf records) (plainCalls (keysOf records) h b q (allByValue ks))
   pub whole-stream : (S : List ℕ) → Resumes S (plainCalls (keysOf records) h b q (allByValue ks)) (outs (lentRun records h b q ks))
       → Tracks (events (outs (lentRun records h b q ks)))
       (toldLog (plainReading (map trustedOf records) S (answersHeard (plainCalls (keysOf records) h b q (allByValue ks)) (outs (lentRun records h b q ks))) true))

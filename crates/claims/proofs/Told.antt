@@ -6,8 +6,8 @@ use mathlib.Core.List.{List, [], _∷_, _++_}
 use Prim.Native.Nat.{ℕ}
 use Rattle.sections.specs.Reading.{Event, question, message, last, Log}
 use Rattle.stream.specs.Events.{Question, Release, headAccepted, block, LastWord}
-use Rattle.agreement.specs.Shown.{Told}
-use Rattle.agreement.specs.Shown as S
+use Rattle.agreement.specs.Observation.{Told}
+use Rattle.agreement.specs.Observation as S
 use Rattle.agreement.specs.Plain.{told, toldEvent, toldLog}
 use Rattle.agreement.proofs.Streams.{log-append}
 use Rattle.exactness.specs.Telling.{Stands, released}

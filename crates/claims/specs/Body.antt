@@ -3,7 +3,7 @@ use mathlib.Core.List.{List, [], _∷_, _++_}
 use Prim.Native.Nat.{ℕ}
 use Rattle.sections.specs.Reading.{Event, question, message, last, Log}
 use Rattle.stream.specs.Events.{Question, LastWord}
-use Rattle.agreement.specs.Shown.{Told, headAccepted, block}
+use Rattle.agreement.specs.Observation.{Told, headAccepted, block}
 
 -- the bytes handed out with an event
 abbrev pub bytesTold : Event Question Told LastWord → List ℕ

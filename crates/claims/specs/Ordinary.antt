@@ -7,11 +7,11 @@ use Rattle.ring.specs.declared.KeyRing.{KeyRing}
 use Rattle.sections.specs.Calls.{Request}
 use Rattle.stream.specs.Stream.{head, rules}
 use Rattle.reaching.specs.Driver.{requestsOver}
-use Rattle.agreement.specs.Run.{Call, same}
+use Rattle.agreement.specs.Run.{Invocation, same}
 
-unfoldable pub allSame : List Request → List Call
+unfoldable pub allSame : List Request → List Invocation
 allSame [] = []
 allSame (r ∷ rs) = same r ∷ allSame rs
 
-abbrev pub ordinaryCalls : KeyRing → List ℕ → List ℕ → List Call
+abbrev pub ordinaryCalls : KeyRing → List ℕ → List ℕ → List Invocation
 ordinaryCalls keys lengths stream = allSame (requestsOver (rules (ringOf keys)) head lengths stream)

@@ -7,10 +7,10 @@ use Rattle.ring.specs.declared.KeyRing.{KeyRing}
 use Rattle.sections.specs.Calls.{Out}
 use Rattle.sections.specs.Resuming.{bytesTaken, answersHeard, endHeard}
 use Rattle.stream.specs.Events.{Question, LastWord}
-use Rattle.agreement.specs.Shown.{Told, outs}
-use Rattle.agreement.specs.Run.{Call, run, plainCalls}
+use Rattle.agreement.specs.Observation.{Told, outs}
+use Rattle.agreement.specs.Run.{Invocation, run, plainCalls}
 
-module _ (keys : KeyRing) (h b q : List ℕ) (ks : List Call) where
+module _ (keys : KeyRing) (h b q : List ℕ) (ks : List Invocation) where
   abbrev pub words : List (Out Question Told LastWord)
   words = outs (run keys h b q ks)
 

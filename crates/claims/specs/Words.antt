@@ -6,18 +6,18 @@ use Rattle.ring.specs.declared.KeyRing.{KeyRing}
 use Rattle.sections.specs.Reading.{Log}
 use Rattle.stream.specs.Events.{Question, Release, LastWord}
 use Rattle.stream.specs.Stream.{plainReading}
-use Rattle.state.specs.Desk.{Desk, desk, freshReader}
+use Rattle.state.specs.Configuration.{Configuration, configuration, freshReader}
 use Rattle.state.specs.declared.word.Word.{Word}
-use Rattle.agreement.specs.Run.{Call, runCall}
+use Rattle.agreement.specs.Run.{Invocation, runCall}
 use Rattle.claims.specs.Runs.{taken, answers, ended}
 
-unfoldable pub wordsFrom : KeyRing → Desk → List Call → List Word
+unfoldable pub wordsFrom : KeyRing → Configuration → List Invocation → List Word
 wordsFrom keys d [] = []
 wordsFrom keys d (k ∷ ks) = runCall keys d k .word ∷ wordsFrom keys (runCall keys d k .after) ks
 
 -- of a list of calls from a fresh reader, as in `run`
-unfoldable pub wordsOfRun : KeyRing → List ℕ → List ℕ → List ℕ → List Call → List Word
-wordsOfRun keys h b q ks = wordsFrom keys (desk freshReader h b q) ks
+unfoldable pub wordsOfRun : KeyRing → List ℕ → List ℕ → List ℕ → List Invocation → List Word
+wordsOfRun keys h b q ks = wordsFrom keys (configuration freshReader h b q) ks
 
 -- ---- a day
 
@@ -27,7 +27,7 @@ pub record Sitting : Type 0 where
   pub head : List ℕ
   pub block : List ℕ
   pub question : List ℕ
-  pub calls : List Call
+  pub calls : List Invocation
 
 -- the words of all calls of a day's streams
 unfoldable pub dayWords : List Sitting → List Word
@@ -35,7 +35,7 @@ dayWords [] = []
 dayWords (s ∷ ss) = wordsOfRun (s .keys) (s .head) (s .block) (s .question) (s .calls) ++ dayWords ss
 
 -- the events of the plain readings of what these calls took
-abbrev pub eventsRead : KeyRing → List ℕ → List ℕ → List ℕ → List Call → Log Question Release LastWord
+abbrev pub eventsRead : KeyRing → List ℕ → List ℕ → List ℕ → List Invocation → Log Question Release LastWord
 eventsRead keys h b q ks = plainReading (ringOf keys) (taken keys h b q ks) (answers keys h b q ks) (ended keys h b q ks)
 
 unfoldable pub dayEvents : List Sitting → Log Question Release LastWord

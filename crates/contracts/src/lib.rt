@@ -7,8 +7,8 @@ ghost use mathlib.Core.List.{List};
 ghost use mathlib.Core.Path.{_≡_};
 ghost use Prim.Native.Nat.{ℕ};
 ghost use Rattle.sections.specs.Calls as C;
-ghost use Rattle.state.specs.Desk.{desk};
-ghost use Rattle.calls.specs.Call.{made};
+ghost use Rattle.state.specs.Configuration.{configuration};
+ghost use Rattle.calls.specs.Response.{made};
 ghost use Rattle.agreement.specs.Run.{called, blockSeen, valueSeen};
 
 fn feed(
@@ -19,31 +19,31 @@ fn feed(
     ring: KeyRing,
     piece: &[u8],
 ) -> Outcome
-    ensures { λ o. ⌜ made o (now (head .exit)) (now (block .exit)) (now (question .exit)) ≡ called ring (desk r (now (head .entry)) (now (block .entry)) (now (question .entry))) (C.feed (now (piece .entry))) ⌝ }
+    ensures { λ o. ⌜ made o (now (head .exit)) (now (block .exit)) (now (question .exit)) ≡ called ring (configuration r (now (head .entry)) (now (block .entry)) (now (question .entry))) (C.feed (now (piece .entry))) ⌝ }
 {
     reader::feed(r, head, block, question, ring, piece)
 }
 
 fn answer(r: Reader, head: &mut [u8], block: &mut [u8], question: &mut [u8], good: bool) -> Outcome
-    ensures { λ o. ⌜ ((ring : KeyRing) → made o (now (head .exit)) (now (block .exit)) (now (question .exit)) ≡ called ring (desk r (now (head .entry)) (now (block .entry)) (now (question .entry))) (C.answer good)) ⌝ }
+    ensures { λ o. ⌜ ((ring : KeyRing) → made o (now (head .exit)) (now (block .exit)) (now (question .exit)) ≡ called ring (configuration r (now (head .entry)) (now (block .entry)) (now (question .entry))) (C.answer good)) ⌝ }
 {
     reader::answer(r, head, block, question, good)
 }
 
 fn end(r: Reader, head: &mut [u8], block: &mut [u8], question: &mut [u8]) -> Outcome
-    ensures { λ o. ⌜ ((ring : KeyRing) → made o (now (head .exit)) (now (block .exit)) (now (question .exit)) ≡ called ring (desk r (now (head .entry)) (now (block .entry)) (now (question .entry))) C.end) ⌝ }
+    ensures { λ o. ⌜ ((ring : KeyRing) → made o (now (head .exit)) (now (block .exit)) (now (question .exit)) ≡ called ring (configuration r (now (head .entry)) (now (block .entry)) (now (question .entry))) C.end) ⌝ }
 {
     reader::end(r, head, block, question)
 }
 
 fn block_part(r: Reader, block: &[u8]) -> &[u8]
-    ensures { λ part. ⌜ ((h q : List ℕ) → now part ≡ blockSeen (desk r h (now (block .entry)) q)) ⌝ }
+    ensures { λ part. ⌜ ((h q : List ℕ) → now part ≡ blockSeen (configuration r h (now (block .entry)) q)) ⌝ }
 {
     reader::block_part(block, r.released)
 }
 
 fn field_part<'a>(r: Reader, head: &'a [u8], name: &[u8]) -> &'a [u8]
-    ensures { λ part. ⌜ ((b q : List ℕ) → now part ≡ valueSeen (desk r (now (head .entry)) b q) (now (name .entry))) ⌝ }
+    ensures { λ part. ⌜ ((b q : List ℕ) → now part ≡ valueSeen (configuration r (now (head .entry)) b q) (now (name .entry))) ⌝ }
 {
     let fixed = r.fixed;
     reader::field_part(head, fixed.accepted, name)

@@ -11,7 +11,7 @@ use Rattle.sections.proofs.Scans.{section-read}
 use Rattle.stream.specs.Events.{Question, Release, LastWord}
 use Rattle.stream.specs.Ring.{Ring}
 use Rattle.stream.specs.Stream.{Context, head, isWhole, Says, judge, rules, plainReading}
-use Rattle.exactness.specs.Telling.{Told, Decides, Due, Expected, on-time, denied, broken-off, Stands}
+use Rattle.exactness.specs.Telling.{StreamEvent, Decides, Due, Expected, on-time, denied, broken-off, Stands}
 use Rattle.exactness.proofs.Ends.{none-front}
 use Rattle.exactness.proofs.Forward.{one-yes}
 use Rattle.exactness.proofs.Judged.{judge-due, none-unfinished}
@@ -22,7 +22,7 @@ module _ (ring : Ring) (S : List ℕ) (all : List Bool) (told : Bool) where
   AllExpected [] = Unit {0}
   AllExpected (x ∷ log) = Expected ring S all told (x .0) (x .1) × AllExpected log
 
-  abbrev due-here : {e : Told} (front rest : List ℕ) (yeses : ℕ) (others : List Bool) → front ++ rest ≡ S → replicate yeses true ++ others ≡ all
+  abbrev due-here : {e : StreamEvent} (front rest : List ℕ) (yeses : ℕ) (others : List Bool) → front ++ rest ≡ S → replicate yeses true ++ others ≡ all
       → Decides ring front yeses e → Due ring S all (length front) e
   due-here front rest yeses others s a d =
       record { front = front; rest = rest; stream = s; place = refl; yeses = yeses; others = others; granted = a; decides = d }
@@ -97,10 +97,10 @@ module _ (ring : Ring) (S : List ℕ) (all : List Bool) (told : Bool) where
   reading-expected = all-expected (length S) S (omega arith) head [] 0 all at-head refl refl
 
   -- from the list to its members
-  member-expected : (before after : Log Question Release LastWord) (at : ℕ) (e : Told) → AllExpected (before ++ (at, e) ∷ after)
+  member-expected : (before after : Log Question Release LastWord) (at : ℕ) (e : StreamEvent) → AllExpected (before ++ (at, e) ∷ after)
       → Expected ring S all told at e
   member-expected [] after at e d = d .0
   member-expected (x ∷ before) after at e d = member-expected before after at e (d .1)
 
-  pub stands-expected : (at : ℕ) (e : Told) → Stands (at, e) (plainReading ring S all told) → Expected ring S all told at e
+  pub stands-expected : (at : ℕ) (e : StreamEvent) → Stands (at, e) (plainReading ring S all told) → Expected ring S all told at e
   stands-expected at e s = member-expected (s .before) (s .after) at e (rw (s .joined) reading-expected)

@@ -10,7 +10,7 @@ use lib.Dec.{leb}
 use lib.ListN.{length, drop, length-append}
 use lib.Pow.{areBytes}
 use lib.Seq.{take-at}
-use Rattle.base64.specs.Base64.{textOf, isText as isBase64}
+use Rattle.base64.specs.Base64.{textOf, isBase64}
 use Rattle.base64.proofs.Laws.{text-length}
 use Rattle.base64.proofs.Written.{text-is, text-bytes}
 use Rattle.stream.specs.Blocks.{lineText, sizeText, extension, ouisig, carriesSignature, isChunkLine, chunkSize, lineSignature}

@@ -14,7 +14,7 @@ use Rattle.stream.specs.Stream.{head, rules, plainReading}
 use Rattle.exactness.specs.Beginning.{Beginning, opening, onward, written, announces, body, questions}
 use Rattle.exactness.specs.Good.{Good, GoodTrailer}
 use Rattle.exactness.specs.ShowEvents.{showEvents}
-use Rattle.exactness.specs.Shows.{WholeShow, joined, streamOf, Honest, beginningOf}
+use Rattle.exactness.specs.Shows.{WholeShow, bodyOf, streamOf, Honest, beginningOf}
 use Rattle.exactness.specs.Telling.{headTells, logOf, wholeLog, released}
 use Rattle.exactness.proofs.Forward.{reading-closed}
 use Rattle.exactness.proofs.HonestShows.{show-written, show-body, show-blocks, show-good}
@@ -76,5 +76,5 @@ module _ (ring : Ring) where
       (completeness (beginningOf s) (s .trailer) r answers told (g .0) (g .1) (h .trailer))
 
   -- and the blocks of these events, joined, are the body that was written down.
-  pub show-released : (s : WholeShow) → Honest ring s → released (showEvents ring s) ≡ joined (s .chunks)
+  pub show-released : (s : WholeShow) → Honest ring s → released (showEvents ring s) ≡ bodyOf (s .chunks)
   show-released s h = rw (← show-log ring s h) (released-body (beginningOf s) (s .trailer) ∙ show-body s)

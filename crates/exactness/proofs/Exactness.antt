@@ -13,7 +13,7 @@ use Rattle.stream.specs.Ring.{Ring}
 use Rattle.stream.specs.Stream.{plainReading}
 use Rattle.exactness.specs.Beginning.{onward}
 use Rattle.exactness.specs.Releases.{AcceptsHead, ReleasesBlock}
-use Rattle.exactness.specs.Telling.{Told, Due, Expected, on-time, Stands, logOf}
+use Rattle.exactness.specs.Telling.{StreamEvent, Due, Expected, on-time, Stands, logOf}
 use Rattle.exactness.proofs.Backward.{stands-expected}
 use Rattle.exactness.proofs.Forward.{reading-good}
 use Rattle.exactness.proofs.Released.{due-block, block-due, due-head, head-due}
@@ -23,7 +23,7 @@ module _ (ring : Ring) where
   -- EVERY EVENT. An event stands in the plain reading of the stream S, at the place `at`, exactly when it is expected there: when
   -- a beginning of S that ends there decides it by the rules and the answers begin with the yeses that it needs; or, of the
   -- refusals, when the answer to a question is no, or the end was told in an unfinished stream.
-  pub exactness : (S : List ℕ) (answers : List Bool) (told : Bool) (at : ℕ) (e : Told)
+  pub exactness : (S : List ℕ) (answers : List Bool) (told : Bool) (at : ℕ) (e : StreamEvent)
       → Stands (at, e) (plainReading ring S answers told) ↔ Expected ring S answers told at e
   exactness S answers told at e = (stands-expected ring S answers told at e, expected-stands ring S answers told at e)
 

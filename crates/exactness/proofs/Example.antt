@@ -6,7 +6,7 @@ use Prim.Native.Nat.{ℕ, _≤_}
 use native.Mathlib.Omega.{arith}
 use lib.ListN.{length, replicate}
 use Rattle.octets.specs.Octets.{octets}
-use Rattle.base64.specs.Base64.{isText as isBase64, valueOf as letterValue, holdsThree, holdsTwo, holdsOne, joined as joinedLetters, bytesOf as base64Bytes, textOf}
+use Rattle.base64.specs.Base64.{isBase64, letterValue, holdsThree, holdsTwo, holdsOne, joinedLetters, base64Bytes, textOf}
 use Rattle.sections.specs.Reading.{cut, cutAt}
 use Rattle.sections.proofs.Cuts.{NoneBelow, cut-is}
 use Rattle.stream.specs.Bytes.{all, same, lowered, sameName}
@@ -24,7 +24,7 @@ use Rattle.stream.specs.Trailer.{endsTrailer, isWholeTrailer, isTrailer}
 use Rattle.stream.proofs.Example.{ring, exampleHead, exampleBody}
 use Rattle.exactness.specs.Good.{GoodHead, GoodTrailer}
 use Rattle.exactness.specs.ShowEvents.{showEvents}
-use Rattle.exactness.specs.Shows.{Chunk, WholeShow, joined, chunksWritten, streamOf, Writes, HonestChunk, HonestChunks, Sized, Honest}
+use Rattle.exactness.specs.Shows.{Chunk, WholeShow, bodyOf, chunksWritten, streamOf, Writes, HonestChunk, HonestChunks, Sized, Honest}
 use Rattle.exactness.specs.Telling.{released}
 use Rattle.exactness.proofs.Completeness.{show-complete, show-released}
 use Rattle.exactness.proofs.Faults.{faultless-head, faultless-trailer}
@@ -97,8 +97,8 @@ chunks-sized : (N : ℕ) → N ≡ 5 → Sized N (example .chunks)
 unfolding example chunk
 chunks-sized N e = (omega arith, (omega arith, omega arith))
 
-chunks-total : length (joined (example .chunks)) ≤ bodyLimit
-unfolding example chunk joined
+chunks-total : length (bodyOf (example .chunks)) ≤ bodyLimit
+unfolding example chunk bodyOf
 chunks-total = omega arith
 
 pub example-honest : Honest ring example
@@ -122,5 +122,5 @@ example-whole told =
     ∙ show-complete ring example [] [] told example-honest
 
 pub example-body : released (showEvents ring example) ≡ octets "Hello world!"
-unfolding example chunk joined
+unfolding example chunk bodyOf
 example-body = show-released ring example example-honest

@@ -10,7 +10,7 @@ use Rattle.stream.specs.Lines.{crlf}
 use Rattle.stream.specs.Ring.{Ring}
 use Rattle.exactness.specs.Beginning.{Beginning, opening, onward, written, headIn, size, announces, blocks, body}
 use Rattle.exactness.specs.Good.{GoodLine, GoodNextLine, Good, opens, goes-on}
-use Rattle.exactness.specs.Shows.{Chunk, WholeShow, joined, chunkLine, signed, chunksWritten, streamOf, Writes, HonestChunks, Sized, Honest, nextDigits, continued, beginningOf}
+use Rattle.exactness.specs.Shows.{Chunk, WholeShow, bodyOf, chunkLine, signed, chunksWritten, streamOf, Writes, HonestChunks, Sized, Honest, nextDigits, continued, beginningOf}
 use Rattle.exactness.proofs.ChunkLines.{bare, signature, line-size, line-carries, line-good}
 
 -- ---- the bytes
@@ -47,12 +47,12 @@ show-written s =
     ∙ ap (λ (k : List ℕ). s .head ++ k) (sym (first-line [] (s .chunks) (s .zeros))))
     ∙ append-assoc (s .head) (chunksWritten [] (s .chunks) (s .zeros)) (s .trailer)
 
-continued-body : (w : Beginning) (cs : List Chunk) (zeros : List ℕ) → body (continued w cs zeros) ≡ body w ++ joined cs
-unfolding body continued joined
+continued-body : (w : Beginning) (cs : List Chunk) (zeros : List ℕ) → body (continued w cs zeros) ≡ body w ++ bodyOf cs
+unfolding body continued bodyOf
 continued-body w [] zeros = sym (append-nil (body w))
-continued-body w (c ∷ cs) zeros = continued-body (onward w (c .block) _) cs zeros ∙ append-assoc (body w) (c .block) (joined cs)
+continued-body w (c ∷ cs) zeros = continued-body (onward w (c .block) _) cs zeros ∙ append-assoc (body w) (c .block) (bodyOf cs)
 
-pub show-body : (s : WholeShow) → body (beginningOf s) ≡ joined (s .chunks)
+pub show-body : (s : WholeShow) → body (beginningOf s) ≡ bodyOf (s .chunks)
 unfolding body
 show-body s = continued-body (opening (s .head) _) (s .chunks) (s .zeros)
 
@@ -90,21 +90,21 @@ full-before : (N : ℕ) (c : Chunk) (cs : List Chunk) → Sized N (c ∷ cs) →
 full-before N c [] h s = absurd (omega arith)
 full-before N c (d ∷ cs) h s = h .0
 
-joined-next : (cs : List Chunk) → nextSize cs ≤ length (joined cs)
-unfolding joined
+joined-next : (cs : List Chunk) → nextSize cs ≤ length (bodyOf cs)
+unfolding bodyOf
 joined-next [] = omega arith
-joined-next (c ∷ cs) = omega (arith, length-append (c .block) (joined cs))
+joined-next (c ∷ cs) = omega (arith, length-append (c .block) (bodyOf cs))
 
 continued-good : (ring : Ring) (w : Beginning) (cs : List Chunk) (zeros : List ℕ) → Good ring w → announces w ≡ nextSize cs
-    → HonestChunks cs → Sized (size w) cs → Writes zeros 0 → length (body w) + length (joined cs) ≤ bodyLimit
+    → HonestChunks cs → Sized (size w) cs → Writes zeros 0 → length (body w) + length (bodyOf cs) ≤ bodyLimit
     → Good ring (continued w cs zeros) × (announces (continued w cs zeros) ≡ 0)
-unfolding continued joined headIn announces body
+unfolding continued bodyOf headIn announces body
 continued-good ring w [] zeros g a h s z t = (g, a)
 continued-good ring w (c ∷ cs) zeros g a h s z t =
     let v = next-writes cs zeros (h .1) z in
     let m = signature (c .signature) (h .0 .bytes) (h .0 .sixty-four) in
-    let k : length (body w ++ c .block) + length (joined cs) ≤ bodyLimit =
-    omega (arith, length-append (body w) (c .block), length-append (c .block) (joined cs)) in
+    let k : length (body w ++ c .block) + length (bodyOf cs) ≤ bodyLimit =
+    omega (arith, length-append (body w) (c .block), length-append (c .block) (bodyOf cs)) in
     let l : GoodLine (size w) (length (body w ++ c .block)) (chunkLine (nextDigits cs zeros) (signed (c .signature))) =
     line-good (size w) (length (body w ++ c .block)) v m (next-most (size w) cs (rest-sized (size w) c cs s)) (omega (arith, joined-next cs)) in
     let n : GoodNextLine (size w) (length (body w ++ c .block)) (c .block) (chunkLine (nextDigits cs zeros) (signed (c .signature))) =

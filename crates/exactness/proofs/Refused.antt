@@ -22,7 +22,7 @@ use Rattle.stream.specs.Trailer.{endsTrailer, isWholeTrailer, isTrailer}
 use Rattle.stream.proofs.Truth.{same-equal}
 use Rattle.exactness.specs.Beginning.{onward, written, headIn, body}
 use Rattle.exactness.specs.Refusals.{Whole, Refuses, head-refused, first-line-refused, next-line-refused, data-end-refused, trailer-refused}
-use Rattle.exactness.specs.Telling.{Told, Stands, logOf}
+use Rattle.exactness.specs.Telling.{StreamEvent, Stands, logOf}
 use Rattle.exactness.proofs.Forward.{pastOf, place-is}
 use Rattle.exactness.proofs.Judged.{onward-rest}
 use Rattle.exactness.proofs.Reached.{body-with}
@@ -31,7 +31,7 @@ use Rattle.exactness.proofs.Wholes.{whole-true, whole-none, whole-some}
 
 module _ (ring : Ring) where
   -- the last event of a list
-  pub stands-last : {e : Told} (log before : Telling ring) (at here : ℕ) → log ≡ before ++ (here, e) ∷ [] → here ≡ at → Stands (at, e) log
+  pub stands-last : {e : StreamEvent} (log before : Telling ring) (at here : ℕ) → log ≡ before ++ (here, e) ∷ [] → here ≡ at → Stands (at, e) log
   stands-last log before at here l p = record { before = before; after = []; joined = rw (← p) (sym l) }
 
   -- ---- each kind of section that is refused

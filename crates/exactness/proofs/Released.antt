@@ -11,11 +11,11 @@ use Rattle.stream.specs.Ring.{Ring}
 use Rattle.exactness.specs.Beginning.{Beginning, onward, written, blocks, offset, questions}
 use Rattle.exactness.specs.Good.{GoodHead, Good}
 use Rattle.exactness.specs.Releases.{AcceptsHead, ReleasesBlock}
-use Rattle.exactness.specs.Telling.{Told, headTells, Decides, head-asked, head-told, block-asked, block-told, body-closed, rule-broken, Due}
+use Rattle.exactness.specs.Telling.{StreamEvent, headTells, Decides, head-asked, head-told, block-asked, block-told, body-closed, rule-broken, Due}
 
 module _ (ring : Ring) where
   -- what a release that is decided after `front` and so many yeses comes from
-  abbrev Origin : List ℕ → ℕ → Told → Type 0
+  abbrev Origin : List ℕ → ℕ → StreamEvent → Type 0
   Origin front yeses (question q) = Unit {0}
   Origin front yeses (message (headAccepted status fields)) =
       GoodHead ring front × (headTells (headOf front) ≡ headAccepted status fields) × (yeses ≡ 1)
@@ -23,7 +23,7 @@ module _ (ring : Ring) where
       (w : Beginning) × (l : List ℕ) × Good ring (onward w b l) × (written (onward w b l) ≡ front) × (offset w ≡ o) × (yeses ≡ questions (onward w b l))
   Origin front yeses (last l) = Unit {0}
 
-  origin : (front : List ℕ) (yeses : ℕ) (e : Told) → Decides ring front yeses e → Origin front yeses e
+  origin : (front : List ℕ) (yeses : ℕ) (e : StreamEvent) → Decides ring front yeses e → Origin front yeses e
   unfolding headTells blocks
   origin front yeses e (head-asked g) = tt
   origin front yeses e (head-told g) = (g, refl, refl)

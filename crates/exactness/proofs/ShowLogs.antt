@@ -9,7 +9,7 @@ use Rattle.stream.specs.Head.{headOf}
 use Rattle.stream.specs.Ring.{Ring}
 use Rattle.exactness.specs.Beginning.{Beginning, opening, onward, written, headIn, blocks, hash}
 use Rattle.exactness.specs.ShowEvents.{chunkAsks, chunkEvents, showEvents}
-use Rattle.exactness.specs.Shows.{Chunk, WholeShow, joined, chunkLine, signed, Writes, HonestChunks, Honest, nextDigits, continued, beginningOf}
+use Rattle.exactness.specs.Shows.{Chunk, WholeShow, bodyOf, chunkLine, signed, Writes, HonestChunks, Honest, nextDigits, continued, beginningOf}
 use Rattle.exactness.specs.Telling.{blockAsks, logOf, wholeLog}
 use Rattle.exactness.proofs.ChunkLines.{line-signature}
 use Rattle.exactness.proofs.Forward.{place-is}
@@ -17,7 +17,7 @@ use Rattle.exactness.proofs.HonestShows.{next-writes, show-body}
 
 module _ (ring : Ring) (s : WholeShow) where
   abbrev closing : Beginning → Log Question Release LastWord
-  closing w = (length (written w ++ s .trailer), last (closed (length (joined (s .chunks))))) ∷ []
+  closing w = (length (written w ++ s .trailer), last (closed (length (bodyOf (s .chunks))))) ∷ []
 
   -- the line after a chunk
   abbrev lineAfter : Chunk → List Chunk → List ℕ

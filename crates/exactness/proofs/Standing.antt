@@ -10,14 +10,14 @@ use Rattle.stream.specs.Head.{headOf}
 use Rattle.stream.specs.Ring.{Ring}
 use Rattle.stream.specs.Stream.{rules, plainReading}
 use Rattle.exactness.specs.Beginning.{onward, written, questions}
-use Rattle.exactness.specs.Telling.{Told, headAsks, blockAsks, Decides, head-asked, head-told, block-asked, block-told, body-closed, rule-broken, Due, Expected, on-time, denied, broken-off, Stands, logOf}
+use Rattle.exactness.specs.Telling.{StreamEvent, headAsks, blockAsks, Decides, head-asked, head-told, block-asked, block-told, body-closed, rule-broken, Due, Expected, on-time, denied, broken-off, Stands, logOf}
 use Rattle.exactness.proofs.Forward.{one-yes, reading-asked, reading-closed}
 use Rattle.exactness.proofs.Refused.{refuses-stands}
 use Rattle.exactness.proofs.Steps.{head-step}
 use Rattle.exactness.proofs.Unfinished.{unfinished-stands}
 
 module _ (ring : Ring) where
-  decides-stands : (front rest : List ℕ) (yeses : ℕ) (others : List Bool) (told : Bool) (e : Told) → Decides ring front yeses e
+  decides-stands : (front rest : List ℕ) (yeses : ℕ) (others : List Bool) (told : Bool) (e : StreamEvent) → Decides ring front yeses e
       → Stands (length front, e) (plainReading ring (front ++ rest) (replicate yeses true ++ others) told)
   unfolding plainReading reading
   decides-stands front rest yeses others told e (head-asked {h = h} g) =
@@ -41,19 +41,19 @@ module _ (ring : Ring) where
       record { before = logOf ring w; after = []; joined = sym (reading-closed ring w t rest others told g z k) }
   decides-stands front rest yeses others told e (rule-broken r) = refuses-stands ring front rest yeses others told _ r
 
-  due-stands : (S : List ℕ) (answers : List Bool) (told : Bool) (at : ℕ) (e : Told) → Due ring S answers at e
+  due-stands : (S : List ℕ) (answers : List Bool) (told : Bool) (at : ℕ) (e : StreamEvent) → Due ring S answers at e
       → Stands (at, e) (plainReading ring S answers told)
   due-stands S answers told at e d =
       rw (← d .stream, ← d .place, ← d .granted) (decides-stands (d .front) (d .rest) (d .yeses) (d .others) told e (d .decides))
 
   -- where a question is decided, a no gives refusal 10
-  abbrev Denies : List ℕ → ℕ → Told → Type 0
+  abbrev Denies : List ℕ → ℕ → StreamEvent → Type 0
   Denies front yeses (question q) = (rest : List ℕ) (others : List Bool) (told : Bool)
       → Stands (length front, last (refused 10)) (plainReading ring (front ++ rest) (replicate yeses true ++ (false ∷ others)) told)
   Denies front yeses (message e) = Unit {0}
   Denies front yeses (last l) = Unit {0}
 
-  no-stands : (front : List ℕ) (yeses : ℕ) (e : Told) → Decides ring front yeses e → Denies front yeses e
+  no-stands : (front : List ℕ) (yeses : ℕ) (e : StreamEvent) → Decides ring front yeses e → Denies front yeses e
   unfolding plainReading reading rules
   no-stands front yeses e (head-asked {h = h} g) = λ rest others told.
       record {
@@ -72,7 +72,7 @@ module _ (ring : Ring) where
   no-stands front yeses e (body-closed g z k) = tt
   no-stands front yeses e (rule-broken r) = tt
 
-  pub expected-stands : (S : List ℕ) (answers : List Bool) (told : Bool) (at : ℕ) (e : Told) → Expected ring S answers told at e
+  pub expected-stands : (S : List ℕ) (answers : List Bool) (told : Bool) (at : ℕ) (e : StreamEvent) → Expected ring S answers told at e
       → Stands (at, e) (plainReading ring S answers told)
   expected-stands S answers told at e (on-time d) = due-stands S answers told at e d
   expected-stands S answers told at e (denied {q = q} d others o) =

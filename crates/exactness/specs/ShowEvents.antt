@@ -8,7 +8,7 @@ use Rattle.stream.specs.Blocks.{chained, blockMessage, offsetOf}
 use Rattle.stream.specs.Events.{Question, Release, block, LastWord, closed}
 use Rattle.stream.specs.Head.{Head, headOf, injectionId, blockSize, trustedBy}
 use Rattle.stream.specs.Ring.{Ring, numberOf}
-use Rattle.exactness.specs.Shows.{Chunk, WholeShow, joined, chunkLine, signed, nextDigits}
+use Rattle.exactness.specs.Shows.{Chunk, WholeShow, bodyOf, chunkLine, signed, nextDigits}
 use Rattle.exactness.specs.Telling.{headAsks, headTells}
 
 -- The question about block i, where `before` is hash(i-1), or nothing for the first: its message, the signature that was
@@ -28,7 +28,7 @@ lineEnd at c cs zeros = at + length (c .block) + 2 + length (chunkLine (nextDigi
 -- The events from block i on, where the line before it ended at the place `at`: for each block its question and then the block,
 -- both at the end of the line after it; at the end of the trailer *closed*, with the total.
 unfoldable pub chunkEvents : Ring → WholeShow → ℕ → List ℕ → ℕ → List Chunk → Log Question Release LastWord
-chunkEvents ring s i before at [] = (at + length (s .trailer), last (closed (length (joined (s .chunks))))) ∷ []
+chunkEvents ring s i before at [] = (at + length (s .trailer), last (closed (length (bodyOf (s .chunks))))) ∷ []
 chunkEvents ring s i before at (c ∷ cs) =
     (lineEnd at c cs (s .zeros), question (chunkAsks ring (headOf (s .head)) i before c))
     ∷ (lineEnd at c cs (s .zeros), message (block (offsetOf i (blockSize (headOf (s .head)))) (c .block)))

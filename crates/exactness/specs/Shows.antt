@@ -32,9 +32,9 @@ pub record WholeShow : Type 0 where
   pub trailer : List ℕ
 
 -- the blocks joined
-unfoldable pub joined : List Chunk → List ℕ
-joined [] = []
-joined (c ∷ cs) = c .block ++ joined cs
+unfoldable pub bodyOf : List Chunk → List ℕ
+bodyOf [] = []
+bodyOf (c ∷ cs) = c .block ++ bodyOf cs
 
 -- ---- how it is written
 
@@ -81,7 +81,7 @@ pub record Honest (ring : Ring) (s : WholeShow) : Type 0 where
   pub head : GoodHead ring (s .head)
   pub chunks : HonestChunks (s .chunks)
   pub sized : Sized (blockSize (headOf (s .head))) (s .chunks)
-  pub total : length (joined (s .chunks)) ≤ bodyLimit
+  pub total : length (bodyOf (s .chunks)) ≤ bodyLimit
   pub zeros : Writes (s .zeros) 0
   pub trailer : GoodTrailer (s .trailer)
 

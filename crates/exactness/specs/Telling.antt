@@ -15,8 +15,8 @@ use Rattle.exactness.specs.Beginning.{Beginning, opening, onward, writte
 use Rattle.exactness.specs.Good.{GoodHead, Good, GoodTrailer}
 use Rattle.exactness.specs.Refusals.{Refuses, Unfinished}
 
-abbrev pub Told : Type 0
-Told = Event Question Release LastWord
+abbrev pub StreamEvent : Type 0
+StreamEvent = Event Question Release LastWord
 
 -- ---- what is asked and told
 
@@ -41,7 +41,7 @@ blockAsks ring w b l =
 
 -- `Decides ring front yeses e`: the last byte of `front` decides the event e, where `yeses` questions were answered with yes.
 -- A question is asked when all before it were answered so; what it asks for is told, at the same byte, on one yes more.
-pub data Decides (ring : Ring) : List ℕ → ℕ → Told → Type 0 where
+pub data Decides (ring : Ring) : List ℕ → ℕ → StreamEvent → Type 0 where
   head-asked : {h : List ℕ} → GoodHead ring h → Decides ring h 0 (question (headAsks ring (headOf h)))
   head-told : {h : List ℕ} → GoodHead ring h → Decides ring h 1 (message (headTells (headOf h)))
   block-asked : {w : Beginning} {b l : List ℕ} → Good ring (onward w b l)
@@ -54,7 +54,7 @@ pub data Decides (ring : Ring) : List ℕ → ℕ → Told → Type 0 where
 
 -- The event e is due at the place `at` of the stream S: a beginning of S of that length decides it, and the answers begin
 -- with all the yeses that it needs.
-pub record Due (ring : Ring) (S : List ℕ) (answers : List Bool) (at : ℕ) (e : Told) : Type 0 where
+pub record Due (ring : Ring) (S : List ℕ) (answers : List Bool) (at : ℕ) (e : StreamEvent) : Type 0 where
   pub front : List ℕ
   pub rest : List ℕ
   pub stream : front ++ rest ≡ S
@@ -66,8 +66,8 @@ pub record Due (ring : Ring) (S : List ℕ) (answers : List Bool) (at : ℕ) (e 
 
 -- All that may be told of a stream: an event that is due; refusal 10 where a question is due and the answer to it is no; and
 -- refusal 11, at the place of all the bytes, where the end was told and the stream is unfinished.
-pub data Expected (ring : Ring) (S : List ℕ) (answers : List Bool) (told : Bool) : ℕ → Told → Type 0 where
-  on-time : {at : ℕ} {e : Told} → Due ring S answers at e → Expected ring S answers told at e
+pub data Expected (ring : Ring) (S : List ℕ) (answers : List Bool) (told : Bool) : ℕ → StreamEvent → Type 0 where
+  on-time : {at : ℕ} {e : StreamEvent} → Due ring S answers at e → Expected ring S answers told at e
   denied : {at : ℕ} {q : Question} (d : Due ring S answers at (question q)) (others : List Bool) → d .others ≡ false ∷ others
       → Expected ring S answers told at (last (refused 10))
   broken-off : (yeses : ℕ) (others : List Bool) → replicate yeses true ++ others ≡ answers → Unfinished ring S yeses → told ≡ true

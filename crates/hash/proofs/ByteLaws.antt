@@ -10,51 +10,51 @@ use native.Mathlib.Omega.{arith}
 use lib.ListN.{length, getD, set, take, drop, length-append, List·getD-append, drop-of-length-le}
 use lib.Pow.{shr-shr, field, mod-mod-pow}
 use lib.Seq.{take-append-seam, drop-append-add, length-take-le, take-suc, take-all, getD-at, paste, paste-suc, take-length, drop-drop, drop-cons, set-at, append-snoc}
-use Rattle.hash.specs.Sha2.{Variant, bytesOf, number, parsed, unparsed}
+use Rattle.hash.specs.Sha2.{Variant, bigEndian, number, parsed, unparsed}
 use Rattle.hash.specs.Parts.{written}
 
-pub long-bytes : (k n : ℕ) → length (bytesOf k n) ≡ k
-unfolding bytesOf
+pub long-bytes : (k n : ℕ) → length (bigEndian k n) ≡ k
+unfolding bigEndian
 long-bytes zero n = refl
-long-bytes (suc k) n = length-append (bytesOf k (n / 256)) _ ∙ (rw (long-bytes k (n / 256)) (add-one k))
+long-bytes (suc k) n = length-append (bigEndian k (n / 256)) _ ∙ (rw (long-bytes k (n / 256)) (add-one k))
 
 -- byte i of k
-pub byte-at : (k n i : ℕ) → i < k → getD (bytesOf k n) i 0 ≡ n / 2 ^ (8 * (k - 1 - i)) % 256
-unfolding bytesOf
+pub byte-at : (k n i : ℕ) → i < k → getD (bigEndian k n) i 0 ≡ n / 2 ^ (8 * (k - 1 - i)) % 256
+unfolding bigEndian
 byte-at zero n i h = absurd (omega arith)
 byte-at (suc k) n i h =
     ⊎-elim (last k n i) (λ j. front k n i j (byte-at k (n / 256) i j)) (eq-or-lt-of-le (le-of-suc-le-suc h))
   where
-    last : (k n i : ℕ) → i ≡ k → getD (bytesOf k (n / 256) ++ (n % 256 ∷ [])) i 0 ≡ n / 2 ^ (8 * (suc k - 1 - i)) % 256
+    last : (k n i : ℕ) → i ≡ k → getD (bigEndian k (n / 256) ++ (n % 256 ∷ [])) i 0 ≡ n / 2 ^ (8 * (suc k - 1 - i)) % 256
     last k n i e =
         let z : 8 * (suc k - 1 - i) ≡ 0 = omega arith in
-        getD-at (bytesOf k (n / 256)) (n % 256) [] 0 i (long-bytes k (n / 256) ∙ sym e) ∙ (rw (z, div-one))
+        getD-at (bigEndian k (n / 256)) (n % 256) [] 0 i (long-bytes k (n / 256) ∙ sym e) ∙ (rw (z, div-one))
 
-    front : (k n i : ℕ) → i < k → getD (bytesOf k (n / 256)) i 0 ≡ n / 256 / 2 ^ (8 * (k - 1 - i)) % 256 → getD (bytesOf k (n / 256) ++ (n % 256 ∷ [])) i 0 ≡ n / 2 ^ (8 * (suc k - 1 - i)) % 256
+    front : (k n i : ℕ) → i < k → getD (bigEndian k (n / 256)) i 0 ≡ n / 256 / 2 ^ (8 * (k - 1 - i)) % 256 → getD (bigEndian k (n / 256) ++ (n % 256 ∷ [])) i 0 ≡ n / 2 ^ (8 * (suc k - 1 - i)) % 256
     front k n i j ih =
         let z : 8 + 8 * (k - 1 - i) ≡ 8 * (suc k - 1 - i) = omega arith in
-        List·getD-append (bytesOf k (n / 256)) _ 0 i (omega (arith, long-bytes k (n / 256)))
+        List·getD-append (bigEndian k (n / 256)) _ 0 i (omega (arith, long-bytes k (n / 256)))
         ∙ ih ∙ ap (λ (x : ℕ). x % 256) (shr-shr n 8 (8 * (k - 1 - i)) ∙ ap (λ (x : ℕ). n / 2 ^ x) z)
 
 -- the bytes of a number in two parts
-pub bytes-split : (j k n : ℕ) → bytesOf (j + k) n ≡ bytesOf j (n / 2 ^ (8 * k)) ++ bytesOf k n
-unfolding bytesOf
-bytes-split j zero n = rw (add-zero j, div-one n) (sym (append-nil (bytesOf j n)))
+pub bytes-split : (j k n : ℕ) → bigEndian (j + k) n ≡ bigEndian j (n / 2 ^ (8 * k)) ++ bigEndian k n
+unfolding bigEndian
+bytes-split j zero n = rw (add-zero j, div-one n) (sym (append-nil (bigEndian j n)))
 bytes-split j (suc k) n =
     let e : 8 + 8 * k ≡ 8 * suc k = omega arith in
-    ap (λ (i : ℕ). bytesOf i n) (add-suc j k)
+    ap (λ (i : ℕ). bigEndian i n) (add-suc j k)
     ∙ ap (λ (l : List ℕ). l ++ (n % 256 ∷ [])) (bytes-split j k (n / 256))
-    ∙ append-assoc (bytesOf j (n / 256 / 2 ^ (8 * k))) (bytesOf k (n / 256)) (n % 256 ∷ [])
-    ∙ ap (λ (x : ℕ). bytesOf j x ++ bytesOf (suc k) n) (shr-shr n 8 (8 * k) ∙ ap (λ (i : ℕ). n / 2 ^ i) e)
+    ∙ append-assoc (bigEndian j (n / 256 / 2 ^ (8 * k))) (bigEndian k (n / 256)) (n % 256 ∷ [])
+    ∙ ap (λ (x : ℕ). bigEndian j x ++ bigEndian (suc k) n) (shr-shr n 8 (8 * k) ∙ ap (λ (i : ℕ). n / 2 ^ i) e)
 
 -- k bytes write no more of a number than they hold
-pub bytes-mod : (k n : ℕ) → bytesOf k (n % 2 ^ (8 * k)) ≡ bytesOf k n
-unfolding bytesOf
+pub bytes-mod : (k n : ℕ) → bigEndian k (n % 2 ^ (8 * k)) ≡ bigEndian k n
+unfolding bigEndian
 bytes-mod zero n = refl
 bytes-mod (suc k) n =
     let e : 8 * suc k ≡ 8 * k + 8 = omega arith in
-    ap (λ (i : ℕ). bytesOf (suc k) (n % 2 ^ i)) e
-    ∙ ap₂ (λ (x y : ℕ). bytesOf k x ++ (y ∷ [])) (field n (8 * k) 8) (mod-mod-pow n (8 * k) 8)
+    ap (λ (i : ℕ). bigEndian (suc k) (n % 2 ^ i)) e
+    ∙ ap₂ (λ (x y : ℕ). bigEndian k x ++ (y ∷ [])) (field n (8 * k) 8) (mod-mod-pow n (8 * k) 8)
     ∙ ap (λ (l : List ℕ). l ++ (n % 256 ∷ [])) (bytes-mod k (n / 256))
 
 pub long-parsed : (v : Variant) (k : ℕ) (p : List ℕ) → length (parsed v k p) ≡ k
@@ -70,17 +70,17 @@ parsed-more v (suc k) p =
     ap (λ (l : List ℕ). number 0 (take (v .bytes) p) ∷ l) (parsed-more v k (drop (v .bytes) p))
     ∙ (rw (drop-drop (k * v .bytes) (v .bytes) p, suc-mul k (v .bytes), add-comm (k * v .bytes) (v .bytes)))
 
-pub unparsed-more : (v : Variant) (s : List ℕ) (x : ℕ) → unparsed v (s ++ (x ∷ [])) ≡ unparsed v s ++ bytesOf (v .bytes) x
+pub unparsed-more : (v : Variant) (s : List ℕ) (x : ℕ) → unparsed v (s ++ (x ∷ [])) ≡ unparsed v s ++ bigEndian (v .bytes) x
 unfolding unparsed
-unparsed-more v [] x = append-nil (bytesOf (v .bytes) x)
+unparsed-more v [] x = append-nil (bigEndian (v .bytes) x)
 unparsed-more v (y ∷ s) x =
-    ap (λ (l : List ℕ). bytesOf (v .bytes) y ++ l) (unparsed-more v s x) ∙ sym (append-assoc (bytesOf (v .bytes) y) (unparsed v s) (bytesOf (v .bytes) x))
+    ap (λ (l : List ℕ). bigEndian (v .bytes) y ++ l) (unparsed-more v s x) ∙ sym (append-assoc (bigEndian (v .bytes) y) (unparsed v s) (bigEndian (v .bytes) x))
 
 pub long-unparsed : (v : Variant) (s : List ℕ) → length (unparsed v s) ≡ length s * v .bytes
 unfolding unparsed
 long-unparsed v [] = sym (zero-mul (v .bytes))
 long-unparsed v (x ∷ s) =
-    length-append (bytesOf (v .bytes) x) (unparsed v s)
+    length-append (bigEndian (v .bytes) x) (unparsed v s)
     ∙ (rw (long-bytes (v .bytes) x, long-unparsed v s, suc-mul (length s) (v .bytes)) (add-comm (v .bytes) (length s * v .bytes)))
 
 -- a loop that copies s over d: a turn, and the end
@@ -99,10 +99,10 @@ pub written-seam : (p q x : List ℕ) (at : ℕ) → length p ≡ at → written
 written-seam p q x at h = rw (← h, take-append-seam p q, drop-append-add p q (length x))
 
 -- a loop that writes the words s over d: a turn, and the end
-pub unparse-turn : (v : Variant) (s d o r : List ℕ) (i : ℕ) → o ≡ unparsed v (take i s) ++ drop (i * v .bytes) d → i < length s → r ≡ written o (i * v .bytes) (bytesOf (v .bytes) (getD s i 0)) → r ≡ unparsed v (take (i + 1) s) ++ drop ((i + 1) * v .bytes) d
+pub unparse-turn : (v : Variant) (s d o r : List ℕ) (i : ℕ) → o ≡ unparsed v (take i s) ++ drop (i * v .bytes) d → i < length s → r ≡ written o (i * v .bytes) (bigEndian (v .bytes) (getD s i 0)) → r ≡ unparsed v (take (i + 1) s) ++ drop ((i + 1) * v .bytes) d
 unparse-turn v s d o r i e h f =
     let b = v .bytes in
-    let x = bytesOf b (getD s i 0) in
+    let x = bigEndian b (getD s i 0) in
     let u = unparsed v (take i s) in
     let l : length u ≡ i * b = long-unparsed v (take i s) ∙ ap (λ (n : ℕ). n * b) (length-take-le i s (omega arith)) in
     let m : u ++ x ≡ unparsed v (take (i + 1) s) = rw (add-one i, take-suc s i 0) (sym (unparsed-more v (take i s) (getD s i 0))) in

@@ -5,7 +5,7 @@ use mathlib.Core.List.{List, [], _∷_, _++_}
 use Prim.Native.Nat.{ℕ, zero, suc, _+_, _*_, _/_, _%_, _<_}
 use native.Mathlib.Omega.{arith}
 use lib.ListN.{length, getD, drop}
-use Rattle.hash.specs.Sha2.{Variant, blockSize, bytesOf, padded, parsed, sums, compressed, hashed, unparsed, digest}
+use Rattle.hash.specs.Sha2.{Variant, blockSize, bigEndian, padded, parsed, sums, compressed, hashed, unparsed, digest}
 use Rattle.hash.specs.Sha512.{variant, initialWords, sha512}
 use Rattle.hash.proofs.ByteLaws.{long-unparsed}
 
@@ -22,15 +22,15 @@ bytes-one : (n : ℕ) → AreBytes (n % 256 ∷ [])
 bytes-one n zero = omega arith
 bytes-one n (suc i) = omega arith
 
-bytes-of : (k n : ℕ) → AreBytes (bytesOf k n)
-unfolding bytesOf
+bytes-of : (k n : ℕ) → AreBytes (bigEndian k n)
+unfolding bigEndian
 bytes-of zero n i = omega arith
-bytes-of (suc k) n i = bytes-append (bytesOf k (n / 256)) (n % 256 ∷ []) (bytes-of k (n / 256)) (bytes-one n) i
+bytes-of (suc k) n i = bytes-append (bigEndian k (n / 256)) (n % 256 ∷ []) (bytes-of k (n / 256)) (bytes-one n) i
 
 bytes-unparsed : (v : Variant) (s : List ℕ) → AreBytes (unparsed v s)
 unfolding unparsed
 bytes-unparsed v [] i = omega arith
-bytes-unparsed v (x ∷ s) i = bytes-append (bytesOf (v .bytes) x) (unparsed v s) (bytes-of (v .bytes) x) (bytes-unparsed v s) i
+bytes-unparsed v (x ∷ s) i = bytes-append (bigEndian (v .bytes) x) (unparsed v s) (bytes-of (v .bytes) x) (bytes-unparsed v s) i
 
 -- a hash value has eight words
 pub long-hashed : (v : Variant) (n : ℕ) (p s : List ℕ) → length s ≡ 8 → length (hashed v n p s) ≡ 8

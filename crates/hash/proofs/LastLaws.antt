@@ -7,7 +7,7 @@ use native.Mathlib.Nat.{zero-add, zero-mul, suc-mul, add-comm, suc-add}
 use native.Mathlib.Omega.{arith}
 use lib.ListN.{length, take, drop, set, replicate, take-append-drop, length-append, length-replicate, length-drop, replicate-append-replicate}
 use lib.Seq.{drop-drop, take-append-le, drop-append-le, drop-at, take-at, take-append-seam, set-at, length-take-le}
-use Rattle.hash.specs.Sha2.{Variant, blockSize, bytesOf, zeros, padding, padded, number, parsed, compressed, hashed, unparsed, digest}
+use Rattle.hash.specs.Sha2.{Variant, blockSize, bigEndian, zeros, padding, padded, number, parsed, compressed, hashed, unparsed, digest}
 use Rattle.hash.specs.Sha512.{variant, initialWords, sha512}
 use Rattle.hash.specs.Parts.{written, lastBlocks, ending, finished}
 use Rattle.hash.proofs.ByteLaws.{long-bytes, bytes-split, bytes-mod, written-seam}
@@ -70,7 +70,7 @@ unfolding lastBlocks ending padding
 last-is n rest high low e f =
     let k = n * 128 + length rest in
     let z : zeros variant (length rest) ≡ zeros variant k = omega arith in
-    let b : bytesOf 8 high ++ bytesOf 8 low ≡ bytesOf 16 (8 * k) = ap₂ (λ (x y : ℕ). bytesOf 8 x ++ bytesOf 8 y) e f ∙ ap (λ (l : List ℕ). bytesOf 8 (8 * k / 2 ^ 64) ++ l) (bytes-mod 8 (8 * k)) ∙ sym (bytes-split 8 8 (8 * k)) in
+    let b : bigEndian 8 high ++ bigEndian 8 low ≡ bigEndian 16 (8 * k) = ap₂ (λ (x y : ℕ). bigEndian 8 x ++ bigEndian 8 y) e f ∙ ap (λ (l : List ℕ). bigEndian 8 (8 * k / 2 ^ 64) ++ l) (bytes-mod 8 (8 * k)) ∙ sym (bytes-split 8 8 (8 * k)) in
     ap₂ (λ (i : ℕ) (l : List ℕ). rest ++ (128 ∷ (replicate i 0 ++ l))) z b
 
 pub long-last : (rest : List ℕ) (high low : ℕ) → length rest < 128 → length (lastBlocks rest high low) ≡ (1 + (length rest + 16) / 128) * 128
@@ -78,8 +78,8 @@ unfolding lastBlocks
 long-last rest high low h =
     let z : List ℕ = replicate (zeros variant (length rest)) 0 in
     let o : length z ≡ zeros variant (length rest) = length-replicate (zeros variant (length rest)) 0 in
-    let b = bytesOf 8 high ++ bytesOf 8 low in
-    omega (arith, length-append rest (128 ∷ (z ++ b)), length-append z b, length-append (bytesOf 8 high) (bytesOf 8 low), long-bytes 8 high, long-bytes 8 low)
+    let b = bigEndian 8 high ++ bigEndian 8 low in
+    omega (arith, length-append rest (128 ∷ (z ++ b)), length-append z b, length-append (bigEndian 8 high) (bigEndian 8 low), long-bytes 8 high, long-bytes 8 low)
 
 abbrev blank : ℕ → List ℕ
 blank n = replicate n 0
@@ -90,11 +90,11 @@ drop-blank a n h =
     ap (λ (k : ℕ). drop a (blank k)) e ∙ ap (drop a) (sym (replicate-append-replicate a (n - a) 0)) ∙ drop-at (blank a) (blank (n - a)) a (length-replicate a 0)
 
 -- a word written where the blank bytes begin
-put-blank : (p o : List ℕ) (at n x : ℕ) → length p ≡ at → 8 ≤ n → o ≡ p ++ blank n → written o at (bytesOf 8 x) ≡ (p ++ bytesOf 8 x) ++ blank (n - 8)
+put-blank : (p o : List ℕ) (at n x : ℕ) → length p ≡ at → 8 ≤ n → o ≡ p ++ blank n → written o at (bigEndian 8 x) ≡ (p ++ bigEndian 8 x) ++ blank (n - 8)
 put-blank p o at n x h k e =
-    ap (λ (l : List ℕ). written l at (bytesOf 8 x)) e
-    ∙ written-seam p (blank n) (bytesOf 8 x) at h
-    ∙ ap (λ (l : List ℕ). (p ++ bytesOf 8 x) ++ l) (ap (λ (i : ℕ). drop i (blank n)) (long-bytes 8 x) ∙ drop-blank 8 n k)
+    ap (λ (l : List ℕ). written l at (bigEndian 8 x)) e
+    ∙ written-seam p (blank n) (bigEndian 8 x) at h
+    ∙ ap (λ (l : List ℕ). (p ++ bigEndian 8 x) ++ l) (ap (λ (i : ℕ). drop i (blank n)) (long-bytes 8 x) ∙ drop-blank 8 n k)
 
 room : (end : ℕ) → end ≤ 256 → 8 ≤ 272 - end - 8
 room end h = omega arith
@@ -102,7 +102,7 @@ room end h = omega arith
 -- the last bytes, the one bit, and the two words of the length, each written over what was blank
 pub filled : (rest t u w : List ℕ) (high low n end : ℕ)
     → n ≡ length rest → n < 128 → end ≡ (1 + (n + 16) / 128) * 128
-    → t ≡ written (blank 256) 0 rest → u ≡ written (set t n 128) (end - 16) (bytesOf 8 high) → w ≡ written u (end - 8) (bytesOf 8 low)
+    → t ≡ written (blank 256) 0 rest → u ≡ written (set t n 128) (end - 16) (bigEndian 8 high) → w ≡ written u (end - 8) (bigEndian 8 low)
     → take (length (lastBlocks rest high low)) w ≡ lastBlocks rest high low
 unfolding lastBlocks
 filled rest t u w high low n end e h d f g k =
@@ -118,10 +118,10 @@ filled rest t u w high low n end e h d f g k =
     ap (λ (l : List ℕ). set l n 128) t1 ∙ set-at rest 0 (blank (255 - n)) 128 n (sym e)
     ∙ ap (λ (i : ℕ). rest ++ (128 ∷ blank i)) b ∙ ap (λ (l : List ℕ). rest ++ (128 ∷ l)) (sym (replicate-append-replicate z (272 - end) 0))
     ∙ sym (append-assoc rest (128 ∷ blank z) (blank (272 - end))) in
-    let u1 : u ≡ (p ++ bytesOf 8 high) ++ blank (272 - end - 8) = g ∙ put-blank p (set t n 128) (end - 16) (272 - end) high lp (omega arith) t2 in
-    let lu : length (p ++ bytesOf 8 high) ≡ end - 8 = omega (arith, length-append p (bytesOf 8 high), long-bytes 8 high) in
-    let w1 : w ≡ ((p ++ bytesOf 8 high) ++ bytesOf 8 low) ++ blank (272 - end - 8 - 8) = k ∙ put-blank (p ++ bytesOf 8 high) u (end - 8) (272 - end - 8) low lu (room end y) u1 in
-    let x : (p ++ bytesOf 8 high) ++ bytesOf 8 low ≡ lastBlocks rest high low = simp append-assoc in
+    let u1 : u ≡ (p ++ bigEndian 8 high) ++ blank (272 - end - 8) = g ∙ put-blank p (set t n 128) (end - 16) (272 - end) high lp (omega arith) t2 in
+    let lu : length (p ++ bigEndian 8 high) ≡ end - 8 = omega (arith, length-append p (bigEndian 8 high), long-bytes 8 high) in
+    let w1 : w ≡ ((p ++ bigEndian 8 high) ++ bigEndian 8 low) ++ blank (272 - end - 8 - 8) = k ∙ put-blank (p ++ bigEndian 8 high) u (end - 8) (272 - end - 8) low lu (room end y) u1 in
+    let x : (p ++ bigEndian 8 high) ++ bigEndian 8 low ≡ lastBlocks rest high low = simp append-assoc in
     let w2 : w ≡ lastBlocks rest high low ++ blank (272 - end - 8 - 8) = w1 ∙ ap (λ (l : List ℕ). l ++ blank (272 - end - 8 - 8)) x in
     ap (take (length (lastBlocks rest high low))) w2 ∙ take-append-seam (lastBlocks rest high low) (blank (272 - end - 8 - 8))
 

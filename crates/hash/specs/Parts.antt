@@ -2,7 +2,7 @@
 use mathlib.Core.List.{List, _∷_, _++_}
 use Prim.Native.Nat.{ℕ, _+_, _*_, _/_}
 use lib.ListN.{length, getD, take, drop, replicate}
-use Rattle.hash.specs.Sha2.{bytesOf, zeros, padding, round, hashed, unparsed}
+use Rattle.hash.specs.Sha2.{bigEndian, zeros, padding, round, hashed, unparsed}
 use Rattle.hash.specs.Sha512.{variant, roundWords}
 
 -- The list d with the list s written over it from the place `at` on.
@@ -15,7 +15,7 @@ roundAt i w s = round variant (getD roundWords i 0) (getD w i 0) s
 
 -- A message's last bytes, fewer than a block, with the padding, where two words write the message's length in bits.
 unfoldable pub lastBlocks : List ℕ → ℕ → ℕ → List ℕ
-lastBlocks rest high low = rest ++ (128 ∷ (replicate (zeros variant (length rest)) 0 ++ (bytesOf 8 high ++ bytesOf 8 low)))
+lastBlocks rest high low = rest ++ (128 ∷ (replicate (zeros variant (length rest)) 0 ++ (bigEndian 8 high ++ bigEndian 8 low)))
 
 -- A message's last bytes with the padding, where n blocks stand before them.
 unfoldable pub ending : ℕ → List ℕ → List ℕ

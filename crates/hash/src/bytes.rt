@@ -2,7 +2,7 @@
 ghost use mathlib.Core.Path.{_≡_};
 ghost use Prim.Native.Nat.{_+_, _≤_, _<_};
 ghost use lib.ListN.{length, getD, take, drop};
-ghost use Rattle.hash.specs.Sha2.{number, bytesOf, unparsed};
+ghost use Rattle.hash.specs.Sha2.{number, bigEndian, unparsed};
 ghost use Rattle.hash.specs.Sha512.{variant};
 ghost use Rattle.hash.specs.Parts.{written};
 
@@ -30,7 +30,7 @@ pub(crate) fn word_at(p: &[u8], at: usize) -> u64
 // Byte i of a word.
 fn byte_of(x: u64, i: usize) -> u8
     requires { ⌜ i < 8 ⌝ }
-    ensures { λ r. ⌜ r ≡ getD (bytesOf 8 x) i 0 ⌝ }
+    ensures { λ r. ⌜ r ≡ getD (bigEndian 8 x) i 0 ⌝ }
 {
     ((x >> (8 * (7 - i))) % 256) as u8
 }
@@ -38,7 +38,7 @@ fn byte_of(x: u64, i: usize) -> u8
 // Writes the word x over eight bytes of out, from the place at on.
 pub(crate) fn put_word(out: &mut [u8], at: usize, x: u64)
     requires { ⌜ at + 8 ≤ length (now out) ⌝ }
-    ensures { λ r. ⌜ now (out .exit) ≡ written (now (out .entry)) at (bytesOf 8 x) ⌝ }
+    ensures { λ r. ⌜ now (out .exit) ≡ written (now (out .entry)) at (bigEndian 8 x) ⌝ }
 {
     let mut i = 0;
     while i < 8 {

@@ -2,7 +2,7 @@
 use mathlib.Core.List.{List, [], _∷_}
 use Prim.Native.Nat.{ℕ}
 use Rattle.octets.specs.Choice.{pick}
-use Rattle.base64.specs.Base64.{isText, bytesOf}
+use Rattle.base64.specs.Base64.{isBase64, base64Bytes}
 use Rattle.stream.specs.Ring.{Ring}
 use Rattle.signing.specs.declared.judging.HeadAnswer.{HeadAnswer}
 use Rattle.signing.specs.declared.judging.HeadAnswer.the-variants.{Refused, Asks}
@@ -23,7 +23,7 @@ numberOf (Asks status size key idLength length) = 0
 
 -- a ring of the one key that a text of 44 characters writes
 unfoldable pub oneKey : List ℕ → ℕ → ℕ → Ring
-oneKey text first last = pick (isText 32 text) (record { key = bytesOf 32 text; first = first; last = last } ∷ []) []
+oneKey text first last = pick (isBase64 32 text) (record { key = base64Bytes 32 text; first = first; last = last } ∷ []) []
 
 abbrev pub told : Judgement → Answer
 told j = made (numberOf (j .answer .answer)) (j .question)

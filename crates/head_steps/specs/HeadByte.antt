@@ -10,7 +10,7 @@ use Rattle.signing.specs.declared.judging.HeadAnswer.{HeadAnswer}
 use Rattle.signing.specs.declared.judging.HeadAnswer.the-variants as A
 use Rattle.stream.specs.Head.{isWholeHead}
 use Rattle.stream.specs.Ring.{Ring}
-use Rattle.state.specs.Desk.{Desk, desk, inPhase, readerAt, Next, on, stop, refuse}
+use Rattle.state.specs.Configuration.{Configuration, configuration, inPhase, readerAt, Next, on, stop, refuse}
 use Rattle.state.specs.declared.phase.Phase.the-variants as P
 use Rattle.state.specs.declared.reader.Fixed.{Fixed}
 use Rattle.state.specs.declared.reader.Reader.{Reader}
@@ -26,24 +26,24 @@ fixing f status size key id idLength =
     record { accepted = f .accepted; status = status; «block_size» = size; key = key; id = id; «id_length» = idLength }
 
 -- the answer, with the signature, the id and the question buffer as judged
-unfoldable pub headAnswered : Desk → ℕ → HeadAnswer → List ℕ → List ℕ → Next
+unfoldable pub headAnswered : Configuration → ℕ → HeadAnswer → List ℕ → List ℕ → Next
 headAnswered d n (A.Refused k) signature id = refuse k 0 d
 headAnswered d n (A.Asks status size key idLength length) signature id =
     stop (W.Question length key) signature
-    (desk (asking (d .reader) n (fixing (d .reader .fixed) status size key id idLength)) (d .head) (d .block) (d .question))
+    (configuration (asking (d .reader) n (fixing (d .reader .fixed) status size key id idLength)) (d .head) (d .block) (d .question))
 
 -- the buffers after the judgement: a question is written, a refusal changes nothing
-abbrev pub judgedAt : Desk → ℕ → Judgement → Next
-judgedAt d n j = headAnswered (desk (d .reader) (d .head) (d .block) (j .question)) n (j .answer .answer) (j .answer .signature) (j .answer .id)
+abbrev pub judgedAt : Configuration → ℕ → Judgement → Next
+judgedAt d n j = headAnswered (configuration (d .reader) (d .head) (d .block) (j .question)) n (j .answer .answer) (j .answer .signature) (j .answer .id)
 
 -- the first n bytes of the head buffer are a whole head, or it goes on
-unfoldable pub headGathered : Ring → Desk → ℕ → Next
+unfoldable pub headGathered : Ring → Configuration → ℕ → Next
 headGathered ring d n =
     pick (isWholeHead (take n (d .head))) (judgedAt d n (headJudged ring (take n (d .head)) (d .question))) (on d)
 
 -- in a state that no stream leads to, with a count past the buffer, the head is refused as too long
-unfoldable pub pushHead : Ring → Desk → ℕ → ℕ → Next
+unfoldable pub pushHead : Ring → Configuration → ℕ → ℕ → Next
 pushHead ring d have x =
     pick (leb (length (d .head)) have)
     (refuse 3 0 d)
-    (headGathered ring (desk (inPhase (d .reader) (P.Head (have + 1))) (set (d .head) have x) (d .block) (d .question)) (have + 1))
+    (headGathered ring (configuration (inPhase (d .reader) (P.Head (have + 1))) (set (d .head) have x) (d .block) (d .question)) (have + 1))

@@ -15,7 +15,7 @@ ghost use Prim.Native.Nat.{ℕ, _≤_};
 ghost use lib.ListN.{length};
 ghost use Rattle.ring.specs.Keys.{ringOf};
 ghost use Rattle.stream.specs.Head.{isWholeHead};
-ghost use Rattle.state.specs.Desk.{desk, nextOf};
+ghost use Rattle.state.specs.Configuration.{configuration, nextOf};
 ghost use Rattle.head_steps.specs.HeadByte.{asking, headAnswered, headGathered, pushHead};
 
 fn is_whole_head(text: &[u8]) -> bool
@@ -39,7 +39,7 @@ fn asked(r: Reader, n: usize, fixed: Fixed) -> Reader
 
 // Where the judgement of the head of n bytes leads. Nothing is pending, so that a refusal clears nothing.
 fn answer_judged(r: Reader, n: usize, judged: Judged) -> Stepped
-    ensures { λ s. ⌜ ((h b q : List ℕ) → nextOf s h b q ≡ headAnswered (desk r h b q) n (judged .answer) (judged .signature) (judged .id)) ⌝ }
+    ensures { λ s. ⌜ ((h b q : List ℕ) → nextOf s h b q ≡ headAnswered (configuration r h b q) n (judged .answer) (judged .signature) (judged .id)) ⌝ }
 {
     let signature = judged.signature;
     let id = judged.id;
@@ -77,7 +77,7 @@ fn answer_judged(r: Reader, n: usize, judged: Judged) -> Stepped
 // With its newest byte, the head is the first n bytes of the head buffer.
 fn judge_head(r: Reader, head: &[u8], question: &mut [u8], ring: KeyRing, n: usize) -> Stepped
     requires { ⌜ n ≤ length (now head) ⌝ }
-    ensures { λ s. ⌜ ((b : List ℕ) → nextOf s (now (head .entry)) b (now (question .exit)) ≡ headGathered (ringOf ring) (desk r (now (head .entry)) b (now (question .entry))) n) ⌝ }
+    ensures { λ s. ⌜ ((b : List ℕ) → nextOf s (now (head .entry)) b (now (question .exit)) ≡ headGathered (ringOf ring) (configuration r (now (head .entry)) b (now (question .entry))) n) ⌝ }
 {
     if !is_whole_head(&head[0..n]) {
         return state::said(Word::More, r);
@@ -95,7 +95,7 @@ pub fn push_head(
     have: usize,
     x: u8,
 ) -> Stepped
-    ensures { λ s. ⌜ ((b : List ℕ) → nextOf s (now (head .exit)) b (now (question .exit)) ≡ pushHead (ringOf ring) (desk r (now (head .entry)) b (now (question .entry))) have x) ⌝ }
+    ensures { λ s. ⌜ ((b : List ℕ) → nextOf s (now (head .exit)) b (now (question .exit)) ≡ pushHead (ringOf ring) (configuration r (now (head .entry)) b (now (question .entry))) have x) ⌝ }
 {
     if head.len() <= have {
         return state::said(Word::Refused(3), state::in_phase(r, Phase::Refused(3)));

@@ -17,7 +17,7 @@ use Rattle.state.specs.declared.reader.Chain.{Chain}
 use Rattle.state.specs.declared.reader.Fixed.{Fixed}
 use Rattle.state.specs.declared.reader.Reader.{Reader}
 use Rattle.state.proofs.reader.Reader as declared
-use Rattle.packing.specs.Parts.{bytesOf, allBytes, numberAt}
+use Rattle.packing.specs.Parts.{littleEndian, allBytes, numberAt}
 use Rattle.layout.specs.State.{stateSize, tagOf, firstOf, secondOf, refusalOf, phaseOf, phaseBytes, fixedBytes, chainBytes, encoded, stored, fixedIn, chainIn, decoded}
 use Rattle.packing.proofs.PartLaws.{sets-next, long-next, long-bytes, long-all, concat, At, past, part-there, number-there}
 
@@ -34,12 +34,12 @@ module _ (f : Fixed) (id : length (f .id) ≡ 64) where
   long-id = long-next (fixedFront f) (f .id) 32 64 96 long-front id refl
 
   pub long-fixed : length (fixedBytes f) ≡ 104
-  long-fixed = long-next (fixedFront f ++ f .id) (bytesOf 8 (f .«id_length»)) 96 8 104 long-id (long-bytes 8 (f .«id_length»)) refl
+  long-fixed = long-next (fixedFront f ++ f .id) (littleEndian 8 (f .«id_length»)) 96 8 104 long-id (long-bytes 8 (f .«id_length»)) refl
 
-  pub fixed-put : (d l₁ l₂ l₃ : List ℕ) → l₁ ≡ sets d 24 (fixedFront f) → l₂ ≡ sets l₁ 56 (f .id) → l₃ ≡ sets l₂ 120 (bytesOf 8 (f .«id_length»)) → l₃ ≡ sets d 24 (fixedBytes f)
+  pub fixed-put : (d l₁ l₂ l₃ : List ℕ) → l₁ ≡ sets d 24 (fixedFront f) → l₂ ≡ sets l₁ 56 (f .id) → l₃ ≡ sets l₂ 120 (littleEndian 8 (f .«id_length»)) → l₃ ≡ sets d 24 (fixedBytes f)
   fixed-put d l₁ l₂ l₃ e₁ e₂ e₃ =
       let p = sets-next d l₁ l₂ (fixedFront f) (f .id) 24 32 56 e₁ long-front refl e₂ in
-      sets-next d l₂ l₃ (fixedFront f ++ f .id) (bytesOf 8 (f .«id_length»)) 24 96 120 p long-id refl e₃
+      sets-next d l₂ l₃ (fixedFront f ++ f .id) (littleEndian 8 (f .«id_length»)) 24 96 120 p long-id refl e₃
 
 -- numbers within their types, and arrays with their lengths, as every value in code has them
 pub record SoundFixed (f : Fixed) : Type 0 where
@@ -51,7 +51,7 @@ pub record SoundFixed (f : Fixed) : Type 0 where
   pub count : f .«id_length» < 2 ^ 64
 
 module _ {whole : List ℕ} {ss : List (List ℕ)} (f : Fixed) (s : SoundFixed f) (e : At whole 24 (fixedBytes f ∷ ss)) where
-  fixed-parts : At whole 24 (bytesOf 8 (f .accepted) ∷ bytesOf 8 (f .status) ∷ bytesOf 8 (f .«block_size») ∷ bytesOf 8 (f .key) ∷ f .id ∷ bytesOf 8 (f .«id_length») ∷ ss)
+  fixed-parts : At whole 24 (littleEndian 8 (f .accepted) ∷ littleEndian 8 (f .status) ∷ littleEndian 8 (f .«block_size») ∷ littleEndian 8 (f .key) ∷ f .id ∷ littleEndian 8 (f .«id_length») ∷ ss)
   unfolding allBytes concat
   fixed-parts = record { there = e .there ∙ (simp (append-assoc, append-nil)) }
 
@@ -77,17 +77,17 @@ module _ {whole : List ℕ} {ss : List (List ℕ)} (f : Fixed) (s : SoundFixed f
 
 module _ (c : Chain) where
   pub long-chain : length (c .hash) ≡ 64 → length (chainBytes c) ≡ 72
-  long-chain h = long-next (bytesOf 8 (c .number .0)) (c .hash) 8 64 72 (long-bytes 8 (c .number .0)) h refl
+  long-chain h = long-next (littleEndian 8 (c .number .0)) (c .hash) 8 64 72 (long-bytes 8 (c .number .0)) h refl
 
-  pub chain-put : (d l₁ l₂ : List ℕ) → l₁ ≡ sets d 128 (bytesOf 8 (c .number .0)) → l₂ ≡ sets l₁ 136 (c .hash) → l₂ ≡ sets d 128 (chainBytes c)
-  chain-put d l₁ l₂ e₁ e₂ = sets-next d l₁ l₂ (bytesOf 8 (c .number .0)) (c .hash) 128 8 136 e₁ (long-bytes 8 (c .number .0)) refl e₂
+  pub chain-put : (d l₁ l₂ : List ℕ) → l₁ ≡ sets d 128 (littleEndian 8 (c .number .0)) → l₂ ≡ sets l₁ 136 (c .hash) → l₂ ≡ sets d 128 (chainBytes c)
+  chain-put d l₁ l₂ e₁ e₂ = sets-next d l₁ l₂ (littleEndian 8 (c .number .0)) (c .hash) 128 8 136 e₁ (long-bytes 8 (c .number .0)) refl e₂
 
 pub record SoundChain (c : Chain) : Type 0 where
   pub number : c .number .0 < 2 ^ 64
   pub hash : length (c .hash) ≡ 64
 
 module _ {whole : List ℕ} {ss : List (List ℕ)} (c : Chain) (s : SoundChain c) (e : At whole 128 (chainBytes c ∷ ss)) where
-  chain-parts : At whole 128 (bytesOf 8 (c .number .0) ∷ c .hash ∷ ss)
+  chain-parts : At whole 128 (littleEndian 8 (c .number .0) ∷ c .hash ∷ ss)
   unfolding concat
   chain-parts = record { there = e .there ∙ (simp append-assoc) }
 
@@ -130,7 +130,7 @@ phase-back (P.Closed total) h = refl
 phase-back (P.Refused n) h = let e : n % 256 ≡ n = omega (arith, h .refusal) in rw e
 
 module _ {whole : List ℕ} {ss : List (List ℕ)} (p : Phase) (s : InRange p) (e : At whole 0 (phaseBytes p ∷ ss)) where
-  phase-parts : At whole 0 (bytesOf 8 (tagOf p) ∷ bytesOf 8 (firstOf p) ∷ bytesOf 8 (secondOf p) ∷ ss)
+  phase-parts : At whole 0 (littleEndian 8 (tagOf p) ∷ littleEndian 8 (firstOf p) ∷ littleEndian 8 (secondOf p) ∷ ss)
   unfolding allBytes concat
   phase-parts = record { there = e .there ∙ (simp (append-assoc, append-nil)) }
 
@@ -167,15 +167,15 @@ module _ (r : Reader) (id : length (r .fixed .id) ≡ 64) (hash : length (r .cha
 
   pub long-encoded : length (encoded r) ≡ stateSize
   unfolding encoded
-  long-encoded = long-next (withLine r) (bytesOf 8 (r .released)) 328 8 336 long-line (long-bytes 8 (r .released)) refl
+  long-encoded = long-next (withLine r) (littleEndian 8 (r .released)) 328 8 336 long-line (long-bytes 8 (r .released)) refl
 
-  pub all-put : (d l₁ l₂ l₃ l₄ l₅ : List ℕ) → l₁ ≡ sets d 0 (phaseBytes (r .phase)) → l₂ ≡ sets l₁ 24 (fixedBytes (r .fixed)) → l₃ ≡ sets l₂ 128 (chainBytes (r .chain)) → l₄ ≡ sets l₃ 200 (r .line) → l₅ ≡ sets l₄ 328 (bytesOf 8 (r .released)) → l₅ ≡ sets d 0 (encoded r)
+  pub all-put : (d l₁ l₂ l₃ l₄ l₅ : List ℕ) → l₁ ≡ sets d 0 (phaseBytes (r .phase)) → l₂ ≡ sets l₁ 24 (fixedBytes (r .fixed)) → l₃ ≡ sets l₂ 128 (chainBytes (r .chain)) → l₄ ≡ sets l₃ 200 (r .line) → l₅ ≡ sets l₄ 328 (littleEndian 8 (r .released)) → l₅ ≡ sets d 0 (encoded r)
   unfolding encoded
   all-put d l₁ l₂ l₃ l₄ l₅ e₁ e₂ e₃ e₄ e₅ =
       let p₂ = sets-next d l₁ l₂ (phaseBytes (r .phase)) (fixedBytes (r .fixed)) 0 24 24 e₁ long-phase refl e₂ in
       let p₃ = sets-next d l₂ l₃ (withFixed r) (chainBytes (r .chain)) 0 128 128 p₂ long-to-chain refl e₃ in
       let p₄ = sets-next d l₃ l₄ (withChain r) (r .line) 0 200 200 p₃ long-to-line refl e₄ in
-      sets-next d l₄ l₅ (withLine r) (bytesOf 8 (r .released)) 0 328 328 p₄ long-line refl e₅
+      sets-next d l₄ l₅ (withLine r) (littleEndian 8 (r .released)) 0 328 328 p₄ long-line refl e₅
 
 pub record Sound (r : Reader) : Type 0 where
   pub phase : InRange (r .phase)
@@ -185,7 +185,7 @@ pub record Sound (r : Reader) : Type 0 where
   pub released : r .released < 2 ^ 64
 
 module _ (r : Reader) where
-  in-parts : (rest : List ℕ) → At (encoded r ++ rest) 0 (phaseBytes (r .phase) ∷ fixedBytes (r .fixed) ∷ chainBytes (r .chain) ∷ r .line ∷ bytesOf 8 (r .released) ∷ rest ∷ [])
+  in-parts : (rest : List ℕ) → At (encoded r ++ rest) 0 (phaseBytes (r .phase) ∷ fixedBytes (r .fixed) ∷ chainBytes (r .chain) ∷ r .line ∷ littleEndian 8 (r .released) ∷ rest ∷ [])
   unfolding encoded concat
   in-parts rest = record { there = simp (append-assoc, append-nil) }
 

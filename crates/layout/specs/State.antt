@@ -11,7 +11,7 @@ use Rattle.state.specs.declared.phase.Phase.the-variants as P
 use Rattle.state.specs.declared.reader.Chain.{Chain}
 use Rattle.state.specs.declared.reader.Fixed.{Fixed}
 use Rattle.state.specs.declared.reader.Reader.{Reader}
-use Rattle.packing.specs.Parts.{bytesOf, allBytes, part, numberAt}
+use Rattle.packing.specs.Parts.{littleEndian, allBytes, part, numberAt}
 
 -- how many bytes a state takes
 abbrev pub stateSize : ℕ
@@ -90,15 +90,15 @@ phaseBytes p = allBytes (tagOf p ∷ firstOf p ∷ secondOf p ∷ [])
 
 -- what the head fixed; the id stands before its length
 abbrev pub fixedBytes : Fixed → List ℕ
-fixedBytes f = allBytes (f .accepted ∷ f .status ∷ f .«block_size» ∷ f .key ∷ []) ++ f .id ++ bytesOf 8 (f .«id_length»)
+fixedBytes f = allBytes (f .accepted ∷ f .status ∷ f .«block_size» ∷ f .key ∷ []) ++ f .id ++ littleEndian 8 (f .«id_length»)
 
 -- the number of the block under way, and the hash of the one before it
 abbrev pub chainBytes : Chain → List ℕ
-chainBytes c = bytesOf 8 (c .number .0) ++ c .hash
+chainBytes c = littleEndian 8 (c .number .0) ++ c .hash
 
 -- one after the other, and what is released
 unfoldable pub encoded : Reader → List ℕ
-encoded r = phaseBytes (r .phase) ++ fixedBytes (r .fixed) ++ chainBytes (r .chain) ++ r .line ++ bytesOf 8 (r .released)
+encoded r = phaseBytes (r .phase) ++ fixedBytes (r .fixed) ++ chainBytes (r .chain) ++ r .line ++ littleEndian 8 (r .released)
 
 -- written over the front of a buffer; one that is too short is left as it is
 unfoldable pub stored : Reader → List ℕ → List ℕ

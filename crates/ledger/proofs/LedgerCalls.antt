@@ -6,10 +6,10 @@ use mathlib.Core.Path.{_≡_, refl}
 use Prim.Native.Nat.{ℕ, suc}
 use lib.ListN.{length, replicate, drop}
 use Rattle.octets.specs.Octets.{octets}
-use Rattle.base64.specs.Base64.{isText as isBase64, valueOf as letterValue, holdsThree, holdsTwo, holdsOne, joined as joinedLetters, bytesOf as base64Bytes}
-use Rattle.hash.specs.Sha2.{bytesOf, padding, padded, number, parsed, schedule, round, rounds, sums, compressed, hashed, unparsed, digest}
+use Rattle.base64.specs.Base64.{isBase64, letterValue, holdsThree, holdsTwo, holdsOne, joinedLetters, base64Bytes}
+use Rattle.hash.specs.Sha2.{bigEndian, padding, padded, number, parsed, schedule, round, rounds, sums, compressed, hashed, unparsed, digest}
 use Rattle.hash.specs.Sha512.{roundWords, sha512}
-use Rattle.sections.specs.Calls.{feed, answer, end, Call, call, Word, more, event, misused, Out, standing, readRequest, readCall, readFrom, readCalls}
+use Rattle.sections.specs.Calls.{feed, answer, end, Call, call, Reply, more, event, misused, Out, standing, readRequest, readCall, readFrom, readCalls}
 use Rattle.sections.specs.Reading.{Event, question, message, last, cut, sections, readingAt, reading}
 use Rattle.stream.specs.Blocks.{isWholeLine, carriesSignature, isChunkLine, chunkSize, lineSignature, lineRules, lineFault, chained, blockMessage}
 use Rattle.stream.specs.Bytes.{all, same, lowered, sameName}
@@ -21,14 +21,14 @@ use Rattle.stream.specs.Numbers.{numberFrom, isDecimal, isHexNumber, decimalWit
 use Rattle.stream.specs.Ring.{fits, firstFrom, found}
 use Rattle.stream.specs.Rule.{firstBroken}
 use Rattle.stream.specs.Signatures.{injectionScan, isInjection, bsigsScan, isBsigs, sig0Scan, isSig0, splitNames, areFields, isNameList}
-use Rattle.stream.specs.Signing.{signedFields, signingLine, joined}
+use Rattle.stream.specs.Signing.{signedFields, signingLine, signingText}
 use Rattle.stream.specs.Stream.{Context, head, firstLine, trailer, isWhole, showOf, headQuestion, acceptHead, judgeHead, judgeFirstLine, judgeDataEnd, blockQuestion, acceptBlock, judgeNextLine, judgeTrailer, judge, rules}
 use Rattle.stream.specs.Template.{run, past, startsWith, scan}
 use Rattle.stream.specs.Trailer.{endsTrailer, isWholeTrailer, isTrailer}
 use Rattle.ledger.proofs.Ledger.{Row, row, broken, told, show, hello, signed}
 
 -- what calls return: a code for the word, its numbers, and the count taken
-abbrev returned : Word Question Release LastWord → List ℕ
+abbrev returned : Reply Question Release LastWord → List ℕ
 returned more = 0 ∷ []
 returned (event e) = told e
 returned (misused n) = 9 ∷ n ∷ []
@@ -76,5 +76,5 @@ calledRows =
     ∷ []
 
 pub called-rows-hold : broken 0 calledRows ≡ []
-unfolding calledRows standing readRequest readCall readFrom readCalls isBase64 letterValue holdsThree holdsTwo holdsOne joinedLetters base64Bytes cut sections readingAt reading isWholeLine carriesSignature isChunkLine chunkSize lineSignature lineRules lineFault chained blockMessage all same lowered sameName among isDoubled namesOf hasField valueOf endsHead isWholeHead headWith headOf statusDigits injectionId injectionTime blockSize blockKey headKey listedNames headSignature signedOf signingString trustedBy textRules trustRules headFault endsWith lines beforeEmpty textLines trimmed fieldScan isFieldLine fieldOf areFieldLines fieldsOf statusScan isStatusLine statusOf numberFrom isDecimal isHexNumber decimalWithin decimal fits firstFrom found firstBroken injectionScan isInjection bsigsScan isBsigs sig0Scan isSig0 splitNames areFields isNameList signedFields signingLine joined isWhole showOf headQuestion acceptHead judgeHead judgeFirstLine judgeDataEnd blockQuestion acceptBlock judgeNextLine judgeTrailer judge rules bytesOf padding padded number parsed schedule round rounds sums compressed hashed unparsed digest roundWords sha512 run past startsWith scan endsTrailer isWholeTrailer isTrailer
+unfolding calledRows standing readRequest readCall readFrom readCalls isBase64 letterValue holdsThree holdsTwo holdsOne joinedLetters base64Bytes cut sections readingAt reading isWholeLine carriesSignature isChunkLine chunkSize lineSignature lineRules lineFault chained blockMessage all same lowered sameName among isDoubled namesOf hasField valueOf endsHead isWholeHead headWith headOf statusDigits injectionId injectionTime blockSize blockKey headKey listedNames headSignature signedOf signingString trustedBy textRules trustRules headFault endsWith lines beforeEmpty textLines trimmed fieldScan isFieldLine fieldOf areFieldLines fieldsOf statusScan isStatusLine statusOf numberFrom isDecimal isHexNumber decimalWithin decimal fits firstFrom found firstBroken injectionScan isInjection bsigsScan isBsigs sig0Scan isSig0 splitNames areFields isNameList signedFields signingLine signingText isWhole showOf headQuestion acceptHead judgeHead judgeFirstLine judgeDataEnd blockQuestion acceptBlock judgeNextLine judgeTrailer judge rules bigEndian padding padded number parsed schedule round rounds sums compressed hashed unparsed digest roundWords sha512 run past startsWith scan endsTrailer isWholeTrailer isTrailer
 called-rows-hold = refl

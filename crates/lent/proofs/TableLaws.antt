@@ -14,8 +14,8 @@ use Rattle.ring.specs.Keys.{trustedOf, ringOf, keysWith, noRecord, noKeys}
 use Rattle.ring.specs.declared.KeyRecord.{KeyRecord}
 use Rattle.ring.specs.declared.KeyRing.{KeyRing}
 use Rattle.stream.specs.Limits.{ringLimit}
-use Rattle.state.specs.Desk.{Desk}
-use Rattle.calls.specs.Call.{fits}
+use Rattle.state.specs.Configuration.{Configuration}
+use Rattle.calls.specs.Response.{fits}
 use Rattle.reader.specs.Feed.{feedOf}
 use Rattle.lent.specs.Table.{lentFeedOf, looked, placed, keysOf, withNext}
 
@@ -119,7 +119,7 @@ count-fits ks = by (leb (length ks) ringLimit) refl
     by true e = count-few ks (leb-true (length ks) ringLimit e) ∙ sym e
     by false e = count-over ks (leb-false (length ks) ringLimit e) ∙ sym e
 
-feed-at : (ks : List KeyRecord) (d : Desk) (piece : List ℕ) (b : Bool) → leb (length ks) ringLimit ≡ b → feedOf (keysOf ks) d piece ≡ lentFeedOf ks d piece
+feed-at : (ks : List KeyRecord) (d : Configuration) (piece : List ℕ) (b : Bool) → leb (length ks) ringLimit ≡ b → feedOf (keysOf ks) d piece ≡ lentFeedOf ks d piece
 unfolding feedOf lentFeedOf
 feed-at ks d piece true e =
     let few = leb-true (length ks) ringLimit e in
@@ -127,5 +127,5 @@ feed-at ks d piece true e =
 feed-at ks d piece false e = rw (e, count-over ks (leb-false (length ks) ringLimit e)) (refused-both (fits d) _ _ _)
 
 -- the reader with the ring by value feeds as with the lent records
-pub feed-lent : (ks : List KeyRecord) (d : Desk) (piece : List ℕ) → feedOf (keysOf ks) d piece ≡ lentFeedOf ks d piece
+pub feed-lent : (ks : List KeyRecord) (d : Configuration) (piece : List ℕ) → feedOf (keysOf ks) d piece ≡ lentFeedOf ks d piece
 feed-lent ks d piece = feed-at ks d piece (leb (length ks) ringLimit) refl

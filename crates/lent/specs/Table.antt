@@ -9,14 +9,14 @@ use Rattle.ring.specs.Keys.{trustedOf, keysWith, noRecord}
 use Rattle.ring.specs.declared.KeyRecord.{KeyRecord}
 use Rattle.ring.specs.declared.KeyRing.{KeyRing}
 use Rattle.stream.specs.Limits.{ringLimit}
-use Rattle.state.specs.Desk.{Desk}
-use Rattle.calls.specs.Call.{Call, unchanged, fits, isReading, recalled}
+use Rattle.state.specs.Configuration.{Configuration}
+use Rattle.calls.specs.Response.{Response, unchanged, fits, isReading, recalled}
 use Rattle.reader.specs.Feed.{takenFrom}
 
 -- ---- a feed
 
 -- 2 where a buffer is short or "a lent ring has over 16 records"; then 1; else the piece is taken with the ring of these records
-unfoldable pub lentFeedOf : List KeyRecord → Desk → List ℕ → Call
+unfoldable pub lentFeedOf : List KeyRecord → Configuration → List ℕ → Response
 lentFeedOf records d piece =
     pick (fits d && leb (length records) ringLimit)
     (pick (isReading (d .reader .phase)) (takenFrom (map trustedOf records) (recalled d) piece) (unchanged 1 d))

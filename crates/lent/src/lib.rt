@@ -7,8 +7,8 @@ use ring::RING_LIMIT;
 use state::Reader;
 ghost use mathlib.Core.List.{[]};
 ghost use mathlib.Core.Path.{_≡_};
-ghost use Rattle.state.specs.Desk.{desk};
-ghost use Rattle.calls.specs.Call.{made};
+ghost use Rattle.state.specs.Configuration.{configuration};
+ghost use Rattle.calls.specs.Response.{made};
 ghost use Rattle.lent.specs.Table.{looked, withNext, keysOf, lentFeedOf};
 
 // A ring of no records.
@@ -63,7 +63,7 @@ pub fn feed(
     records: &[KeyRecord],
     piece: &[u8],
 ) -> Outcome
-    ensures { λ o. ⌜ made o (now (head .exit)) (now (block .exit)) (now (question .exit)) ≡ lentFeedOf (now (records .entry)) (desk r (now (head .entry)) (now (block .entry)) (now (question .entry))) (now (piece .entry)) ⌝ }
+    ensures { λ o. ⌜ made o (now (head .exit)) (now (block .exit)) (now (question .exit)) ≡ lentFeedOf (now (records .entry)) (configuration r (now (head .entry)) (now (block .entry)) (now (question .entry))) (now (piece .entry)) ⌝ }
 {
     reader::feed(r, head, block, question, ring_of(records), piece)
 }

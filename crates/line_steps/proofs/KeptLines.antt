@@ -13,7 +13,7 @@ use Rattle.chunk.specs.declared.judging.LineAnswer.the-variants as A
 use Rattle.number.specs.Writing.{written}
 use Rattle.octets.specs.Choice.{pick}
 use Rattle.stream.specs.Blocks.{isWholeLine}
-use Rattle.state.specs.Desk.{Desk}
+use Rattle.state.specs.Configuration.{Configuration}
 use Rattle.state.proofs.KeptLaws.{Kept, kept-on, kept-pick, kept-after, kept-refuse}
 use Rattle.line_steps.specs.FirstLine.{lineOf, firstAnswered, firstGathered, pushFirstLine}
 use Rattle.line_steps.specs.NextLine.{messageNow, asked, nextAnswered, nextGathered, pushNextLine}
@@ -35,32 +35,32 @@ module _ (m out : List ℕ) where
 
 -- ---- the pushes
 
-kept-first : (d : Desk) (a : LineAnswer) → Kept d (firstAnswered d a)
+kept-first : (d : Configuration) (a : LineAnswer) → Kept d (firstAnswered d a)
 unfolding firstAnswered
 kept-first d (A.Refused n) = kept-refuse n 0 d
 kept-first d (A.Good size) = kept-on d _ refl refl refl
 
-kept-first-gathered : (d : Desk) (n : ℕ) → Kept d (firstGathered d n)
+kept-first-gathered : (d : Configuration) (n : ℕ) → Kept d (firstGathered d n)
 unfolding firstGathered
 kept-first-gathered d n = kept-pick d (isWholeLine (lineOf d n)) _ _ (kept-first d _) (kept-on d d refl refl refl)
 
-pub kept-first-line : (d : Desk) (have x : ℕ) → Kept d (pushFirstLine d have x)
+pub kept-first-line : (d : Configuration) (have x : ℕ) → Kept d (pushFirstLine d have x)
 unfolding pushFirstLine
 kept-first-line d have x = kept-pick d (leb 128 have) _ _ (kept-refuse 6 0 d) (kept-after d _ _ (kept-on d _ refl refl refl) (kept-first-gathered _ (have + 1)))
 
-kept-asked : (d : Desk) (size next : ℕ) (signature : List ℕ) → Kept d (asked d size next signature)
+kept-asked : (d : Configuration) (size next : ℕ) (signature : List ℕ) → Kept d (asked d size next signature)
 unfolding asked messageNow
 kept-asked d size next signature = record { head = refl; block = refl; question = length-written _ (d .question) }
 
-kept-next : (d : Desk) (size : ℕ) (a : LineAnswer) (signature : List ℕ) → Kept d (nextAnswered d size a signature)
+kept-next : (d : Configuration) (size : ℕ) (a : LineAnswer) (signature : List ℕ) → Kept d (nextAnswered d size a signature)
 unfolding nextAnswered
 kept-next d size (A.Refused n) signature = kept-refuse n size d
 kept-next d size (A.Good next) signature = kept-asked d size next signature
 
-kept-next-gathered : (d : Desk) (n size : ℕ) → Kept d (nextGathered d n size)
+kept-next-gathered : (d : Configuration) (n size : ℕ) → Kept d (nextGathered d n size)
 unfolding nextGathered
 kept-next-gathered d n size = kept-pick d (isWholeLine (lineOf d n)) _ _ (kept-next d size _ _) (kept-on d d refl refl refl)
 
-pub kept-next-line : (d : Desk) (have size x : ℕ) → Kept d (pushNextLine d have size x)
+pub kept-next-line : (d : Configuration) (have size x : ℕ) → Kept d (pushNextLine d have size x)
 unfolding pushNextLine
 kept-next-line d have size x = kept-pick d (leb 128 have) _ _ (kept-refuse 6 size d) (kept-after d _ _ (kept-on d _ refl refl refl) (kept-next-gathered _ (have + 1) size))

@@ -10,13 +10,13 @@ use Rattle.blocks.specs.declared.offsets.ByteOffset.{ByteOffset}
 use Rattle.number.specs.Writing.{written}
 use Rattle.octets.specs.Choice.{pick}
 use Rattle.stream.specs.Blocks.{chained, blockMessage}
-use Rattle.state.specs.Desk.{Desk, desk, withHash, stop}
+use Rattle.state.specs.Configuration.{Configuration, configuration, withHash, stop}
 use Rattle.line_steps.specs.NextLine.{offsetNow, hashNow, messageNow, asked}
 use Rattle.state.specs.declared.phase.Phase.the-variants as P
 use Rattle.state.specs.declared.word.Word.the-variants as W
 use Rattle.state.proofs.BufferLaws.{take-min}
 
-module _ (d : Desk) (size end : ℕ) (hash : List ℕ) (e : end ≡ min size (length (d .block))) (f : hash ≡ chained (pick (eqb (d .reader .chain .number .0) 0) [] (d .reader .chain .hash)) (take (end - 0) (d .block))) where
+module _ (d : Configuration) (size end : ℕ) (hash : List ℕ) (e : end ≡ min size (length (d .block))) (f : hash ≡ chained (pick (eqb (d .reader .chain .number .0) 0) [] (d .reader .chain .hash)) (take (end - 0) (d .block))) where
   hash-is : hash ≡ hashNow d size
   hash-is = f ∙ rw (sub-zero, e, take-min)
 
@@ -25,6 +25,6 @@ module _ (d : Desk) (size end : ℕ) (hash : List ℕ) (e : end ≡ min size (le
     unfolding messageNow
     message-is = rw (g, hash-is) at m
 
-    pub asked-is : stop (W.Question count (d .reader .fixed .key)) signature (desk (withHash (d .reader) (P.BlockAsked size next) hash) (d .head) (d .block) bytes) ≡ asked d size next signature
+    pub asked-is : stop (W.Question count (d .reader .fixed .key)) signature (configuration (withHash (d .reader) (P.BlockAsked size next) hash) (d .head) (d .block) bytes) ≡ asked d size next signature
     unfolding asked
     asked-is = rw (← message-is, ← hash-is)

@@ -12,7 +12,7 @@ use Rattle.chunk.specs.declared.judging.LineAnswer.{LineAnswer}
 use Rattle.chunk.specs.declared.judging.LineAnswer.the-variants as A
 use Rattle.stream.specs.Blocks.{isWholeLine}
 use Rattle.stream.specs.Limits.{lineLimit}
-use Rattle.state.specs.Desk.{Desk, moved, lined, Next, on, refuse}
+use Rattle.state.specs.Configuration.{Configuration, moved, lined, Next, on, refuse}
 use Rattle.state.specs.declared.phase.Phase.{Phase}
 use Rattle.state.specs.declared.phase.Phase.the-variants as P
 
@@ -21,22 +21,22 @@ abbrev pub announced : ℕ → ℕ → Phase
 announced n total = pick (eqb n 0) (P.Trailer 0 total) (P.Data 0 n)
 
 -- the first n bytes of the line
-abbrev pub lineOf : Desk → ℕ → List ℕ
+abbrev pub lineOf : Configuration → ℕ → List ℕ
 lineOf d n = take n (d .reader .line)
 
 -- the first line, where nothing is pending
-unfoldable pub firstAnswered : Desk → LineAnswer → Next
+unfoldable pub firstAnswered : Configuration → LineAnswer → Next
 firstAnswered d (A.Refused n) = refuse n 0 d
 firstAnswered d (A.Good size) = on (moved d (announced size 0))
 
 -- the n bytes so far are a whole line, or it goes on
-unfoldable pub firstGathered : Desk → ℕ → Next
+unfoldable pub firstGathered : Configuration → ℕ → Next
 firstGathered d n =
     pick (isWholeLine (lineOf d n))
     (firstAnswered d (lineJudged (d .reader .fixed .«block_size») false true 0 (lineOf d n) .answer))
     (on d)
 
-unfoldable pub pushFirstLine : Desk → ℕ → ℕ → Next
+unfoldable pub pushFirstLine : Configuration → ℕ → ℕ → Next
 pushFirstLine d have x =
     pick (leb lineLimit have)
     (refuse 6 0 d)

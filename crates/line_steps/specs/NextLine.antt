@@ -16,7 +16,7 @@ use Rattle.blocks.specs.declared.offsets.ByteOffset.{ByteOffset}
 use Rattle.number.specs.Writing.{Written}
 use Rattle.stream.specs.Blocks.{isWholeLine, chained, blockMessage}
 use Rattle.stream.specs.Limits.{lineLimit}
-use Rattle.state.specs.Desk.{Desk, desk, withHash, lined, Next, on, stop, refuse}
+use Rattle.state.specs.Configuration.{Configuration, configuration, withHash, lined, Next, on, stop, refuse}
 use Rattle.state.specs.declared.phase.Phase.the-variants as P
 use Rattle.state.specs.declared.reader.Reader.{Reader}
 use Rattle.state.specs.declared.word.Word.the-variants as W
@@ -34,32 +34,32 @@ unfoldable pub nextJudged : Reader → ℕ → List ℕ → Line
 nextJudged r size l = lineJudged (r .fixed .«block_size») true (eqb size (r .fixed .«block_size»)) (bodyWith r size) l
 
 -- the hash of the block, the first `size` bytes of the block buffer
-abbrev pub hashNow : Desk → ℕ → List ℕ
+abbrev pub hashNow : Configuration → ℕ → List ℕ
 hashNow d size = chained (pick (eqb (d .reader .chain .number .0) 0) [] (d .reader .chain .hash)) (take size (d .block))
 
 -- the question about the block: its message is written at the front of the question buffer
-unfoldable pub messageNow : Desk → ℕ → Written
+unfoldable pub messageNow : Configuration → ℕ → Written
 messageNow d size =
     messageWritten
     (blockMessage (take (d .reader .fixed .«id_length») (d .reader .fixed .id)) (offsetNow (d .reader) .0) (hashNow d size))
     (d .question)
 
-unfoldable pub asked : Desk → ℕ → ℕ → List ℕ → Next
+unfoldable pub asked : Configuration → ℕ → ℕ → List ℕ → Next
 asked d size next signature =
     stop (W.Question (messageNow d size .count) (d .reader .fixed .key)) signature
-    (desk (withHash (d .reader) (P.BlockAsked size next) (hashNow d size)) (d .head) (d .block) (messageNow d size .bytes))
+    (configuration (withHash (d .reader) (P.BlockAsked size next) (hashNow d size)) (d .head) (d .block) (messageNow d size .bytes))
 
-unfoldable pub nextAnswered : Desk → ℕ → LineAnswer → List ℕ → Next
+unfoldable pub nextAnswered : Configuration → ℕ → LineAnswer → List ℕ → Next
 nextAnswered d size (A.Refused n) signature = refuse n size d
 nextAnswered d size (A.Good next) signature = asked d size next signature
 
-unfoldable pub nextGathered : Desk → ℕ → ℕ → Next
+unfoldable pub nextGathered : Configuration → ℕ → ℕ → Next
 nextGathered d n size =
     pick (isWholeLine (lineOf d n))
     (nextAnswered d size (nextJudged (d .reader) size (lineOf d n) .answer) (nextJudged (d .reader) size (lineOf d n) .signature))
     (on d)
 
-unfoldable pub pushNextLine : Desk → ℕ → ℕ → ℕ → Next
+unfoldable pub pushNextLine : Configuration → ℕ → ℕ → ℕ → Next
 pushNextLine d have size x =
     pick (leb lineLimit have)
     (refuse 6 size d)

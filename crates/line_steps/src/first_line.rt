@@ -11,7 +11,7 @@ ghost use mathlib.Core.List.{List};
 ghost use mathlib.Core.Path.{_≡_};
 ghost use Prim.Native.Nat.{ℕ, _≤_};
 ghost use Rattle.stream.specs.Blocks.{isWholeLine};
-ghost use Rattle.state.specs.Desk.{desk, nextOf};
+ghost use Rattle.state.specs.Configuration.{configuration, nextOf};
 ghost use Rattle.line_steps.specs.FirstLine.{announced as announcedPhase, firstAnswered, firstGathered, pushFirstLine};
 
 // A line without its end is refused at this many bytes.
@@ -35,7 +35,7 @@ pub fn announced(size: usize, total: u64) -> Phase
 
 // Before the first block nothing is pending, so that a refusal clears nothing.
 fn answer_first(r: Reader, answer: LineAnswer) -> Stepped
-    ensures { λ s. ⌜ ((h b q : List ℕ) → nextOf s h b q ≡ firstAnswered (desk r h b q) answer) ⌝ }
+    ensures { λ s. ⌜ ((h b q : List ℕ) → nextOf s h b q ≡ firstAnswered (configuration r h b q) answer) ⌝ }
 {
     match answer {
         LineAnswer::Refused(n) => said(Word::Refused(n), in_phase(r, Phase::Refused(n))),
@@ -46,7 +46,7 @@ fn answer_first(r: Reader, answer: LineAnswer) -> Stepped
 // With its newest byte, the line is the first n bytes of the state's.
 fn judge_first(r: Reader, n: usize) -> Stepped
     requires { ⌜ n ≤ 128 ⌝ }
-    ensures { λ s. ⌜ ((h b q : List ℕ) → nextOf s h b q ≡ firstGathered (desk r h b q) n) ⌝ }
+    ensures { λ s. ⌜ ((h b q : List ℕ) → nextOf s h b q ≡ firstGathered (configuration r h b q) n) ⌝ }
 {
     let line = r.line;
     if !is_whole_line(&line[0..n]) {
@@ -61,7 +61,7 @@ fn judge_first(r: Reader, n: usize) -> Stepped
 
 // A byte of the first chunk line, of which `have` bytes have come.
 pub fn push_first_line(r: Reader, have: usize, x: u8) -> Stepped
-    ensures { λ s. ⌜ ((h b q : List ℕ) → nextOf s h b q ≡ pushFirstLine (desk r h b q) have x) ⌝ }
+    ensures { λ s. ⌜ ((h b q : List ℕ) → nextOf s h b q ≡ pushFirstLine (configuration r h b q) have x) ⌝ }
 {
     if LINE_LIMIT <= have {
         return said(Word::Refused(6), in_phase(r, Phase::Refused(6)));

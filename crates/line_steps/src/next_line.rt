@@ -15,7 +15,7 @@ ghost use mathlib.Core.List.{List};
 ghost use mathlib.Core.Path.{_≡_};
 ghost use Prim.Native.Nat.{ℕ, _≤_};
 ghost use lib.ListN.{take};
-ghost use Rattle.state.specs.Desk.{desk, nextOf};
+ghost use Rattle.state.specs.Configuration.{configuration, nextOf};
 ghost use Rattle.line_steps.specs.NextLine.{bodyWith, nextJudged, asked, nextAnswered, nextGathered, pushNextLine};
 
 const LARGEST: u64 = 0xffff_ffff_ffff_ffff;
@@ -56,7 +56,7 @@ fn ask(
     next: usize,
     signature: [u8; 64],
 ) -> Stepped
-    ensures { λ s. ⌜ ((h : List ℕ) → nextOf s h (now (block .entry)) (now (question .exit)) ≡ asked (desk r h (now (block .entry)) (now (question .entry))) size next signature) ⌝ }
+    ensures { λ s. ⌜ ((h : List ℕ) → nextOf s h (now (block .entry)) (now (question .exit)) ≡ asked (configuration r h (now (block .entry)) (now (question .entry))) size next signature) ⌝ }
 {
     let end = places::least(size, block.len());
     let chain = r.chain;
@@ -77,7 +77,7 @@ fn ask(
 }
 
 fn answer_next(r: Reader, block: &mut [u8], question: &mut [u8], size: usize, line: Line) -> Stepped
-    ensures { λ s. ⌜ ((h : List ℕ) → nextOf s h (now (block .exit)) (now (question .exit)) ≡ nextAnswered (desk r h (now (block .entry)) (now (question .entry))) size (line .answer) (line .signature)) ⌝ }
+    ensures { λ s. ⌜ ((h : List ℕ) → nextOf s h (now (block .exit)) (now (question .exit)) ≡ nextAnswered (configuration r h (now (block .entry)) (now (question .entry))) size (line .answer) (line .signature)) ⌝ }
 {
     let signature = line.signature;
     let answer = line.answer;
@@ -90,7 +90,7 @@ fn answer_next(r: Reader, block: &mut [u8], question: &mut [u8], size: usize, li
 // With its newest byte, the line is the first n bytes of the state's.
 fn judge_next(r: Reader, block: &mut [u8], question: &mut [u8], n: usize, size: usize) -> Stepped
     requires { ⌜ n ≤ 128 ⌝ }
-    ensures { λ s. ⌜ ((h : List ℕ) → nextOf s h (now (block .exit)) (now (question .exit)) ≡ nextGathered (desk r h (now (block .entry)) (now (question .entry))) n size) ⌝ }
+    ensures { λ s. ⌜ ((h : List ℕ) → nextOf s h (now (block .exit)) (now (question .exit)) ≡ nextGathered (configuration r h (now (block .entry)) (now (question .entry))) n size) ⌝ }
 {
     let line = r.line;
     if !is_whole_line(&line[0..n]) {
@@ -109,7 +109,7 @@ pub fn push_next_line(
     size: usize,
     x: u8,
 ) -> Stepped
-    ensures { λ s. ⌜ ((h : List ℕ) → nextOf s h (now (block .exit)) (now (question .exit)) ≡ pushNextLine (desk r h (now (block .entry)) (now (question .entry))) have size x) ⌝ }
+    ensures { λ s. ⌜ ((h : List ℕ) → nextOf s h (now (block .exit)) (now (question .exit)) ≡ pushNextLine (configuration r h (now (block .entry)) (now (question .entry))) have size x) ⌝ }
 {
     if LINE_LIMIT <= have {
         return refused(r, block, size, 6);

@@ -6,9 +6,9 @@ use state::Reader;
 ghost use mathlib.Core.Path.{_≡_};
 ghost use Prim.Native.Nat.{min};
 ghost use lib.ListN.{take};
-ghost use Rattle.state.specs.Desk.{desk};
+ghost use Rattle.state.specs.Configuration.{configuration};
 ghost use Rattle.stream.specs.Limits.{ringLimit};
-ghost use Rattle.calls.specs.Call.{made};
+ghost use Rattle.calls.specs.Response.{made};
 ghost use Rattle.lent.specs.Table.{lentFeedOf};
 
 // How many of the records are lent: a count is never over the room.
@@ -31,7 +31,7 @@ pub fn feed(
     count: usize,
     piece: &[u8],
 ) -> Outcome
-    ensures { λ o. ⌜ made o (now (head .exit)) (now (block .exit)) (now (question .exit)) ≡ lentFeedOf (take (min count ringLimit) records) (desk r (now (head .entry)) (now (block .entry)) (now (question .entry))) (now (piece .entry)) ⌝ }
+    ensures { λ o. ⌜ made o (now (head .exit)) (now (block .exit)) (now (question .exit)) ≡ lentFeedOf (take (min count ringLimit) records) (configuration r (now (head .entry)) (now (block .entry)) (now (question .entry))) (now (piece .entry)) ⌝ }
 {
     let n = within(count);
     lent::feed(r, head, block, question, &records[..n], piece)

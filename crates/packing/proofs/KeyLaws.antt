@@ -13,7 +13,7 @@ use Rattle.ring.specs.declared.KeyRecord.{KeyRecord}
 use Rattle.stream.specs.Limits.{ringLimit}
 use Rattle.stream.specs.Ring.{Trusted, Ring}
 use Rattle.packing.specs.Keys.{recordSize, recordAt, countOf, keysIn, keyBytes, ringBytes}
-use Rattle.packing.specs.Parts.{bytesOf, upTo}
+use Rattle.packing.specs.Parts.{littleEndian, upTo}
 use Rattle.packing.proofs.PartLaws.{long-up-to, at-up-to, long-next, long-bytes, concat, At, past, part-there, number-there}
 
 -- numbers and a key as a record in code has them
@@ -34,8 +34,8 @@ sound-at (more s ss) (suc i) d h = sound-at ss i d (le-of-suc-le-suc h)
 long-key : (k : Trusted) → SoundKey k → length (keyBytes k) ≡ recordSize
 unfolding keyBytes
 long-key k s =
-    long-next (k .key ++ bytesOf 8 (k .first)) (bytesOf 8 (k .last)) 40 8 48
-    (long-next (k .key) (bytesOf 8 (k .first)) 32 8 40 (s .key) (long-bytes 8 (k .first)) refl)
+    long-next (k .key ++ littleEndian 8 (k .first)) (littleEndian 8 (k .last)) 40 8 48
+    (long-next (k .key) (littleEndian 8 (k .first)) 32 8 40 (s .key) (long-bytes 8 (k .first)) refl)
     (long-bytes 8 (k .last)) refl
 
 long-ring : {ks : Ring} → SoundKeys ks → length (ringBytes ks) ≡ recordSize * length ks
@@ -57,7 +57,7 @@ rest-at (more {k} {ks} s ss) (suc i) d h =
 -- ---- one record
 
 module _ (k : Trusted) (s : SoundKey k) (whole rest : List ℕ) (i : ℕ) (e : drop (recordSize * i) whole ≡ keyBytes k ++ rest) where
-  parts : At whole (recordSize * i) (k .key ∷ bytesOf 8 (k .first) ∷ bytesOf 8 (k .last) ∷ rest ∷ [])
+  parts : At whole (recordSize * i) (k .key ∷ littleEndian 8 (k .first) ∷ littleEndian 8 (k .last) ∷ rest ∷ [])
   unfolding keyBytes concat
   parts = record { there = e ∙ (simp (append-assoc, append-nil)) }
 

@@ -8,7 +8,7 @@ use native.Mathlib.Numerals.{add-one}
 use native.Mathlib.Omega.{arith}
 use lib.ListN.{length, getD, set, drop, length-append, drop-of-length-le, List·getD-append}
 use lib.Seq.{sets, drop-cons, drop-drop, drop-at, append-snoc, set-at, set-out, getD-at, getD-drop, ext-getD}
-use Rattle.packing.specs.Parts.{bytesOf, allBytes, number, upTo, part, numberAt}
+use Rattle.packing.specs.Parts.{littleEndian, allBytes, number, upTo, part, numberAt}
 
 -- ---- a list of f's values
 
@@ -50,16 +50,16 @@ pub bytes-end : (s l : List ℕ) (at i : ℕ) → i ≤ length s → min (length
 bytes-end s l at i h g =
     ⊎-elim (λ e. rw (drop-of-length-le s {i = i} (omega (arith, e)))) (λ k. sets-out l (drop i s) (at + i) (omega (arith, k))) (eq-or-lt-of-le h)
 
-pub number-turn : (l : List ℕ) (at n i x : ℕ) → i < 8 → x ≡ n % 256 → sets l (at + i) (bytesOf (8 - i) n) ≡ sets (set l (at + i) x) (at + (i + 1)) (bytesOf (8 - (i + 1)) (n / 256))
-unfolding bytesOf
+pub number-turn : (l : List ℕ) (at n i x : ℕ) → i < 8 → x ≡ n % 256 → sets l (at + i) (littleEndian (8 - i) n) ≡ sets (set l (at + i) x) (at + (i + 1)) (littleEndian (8 - (i + 1)) (n / 256))
+unfolding littleEndian
 number-turn l at n i x h k =
     let e : 8 - i ≡ suc (8 - (i + 1)) = omega arith in
-    rw (k, e) (sets-more l (bytesOf (8 - (i + 1)) (n / 256)) (at + i) (at + (i + 1)) (n % 256) (omega arith))
+    rw (k, e) (sets-more l (littleEndian (8 - (i + 1)) (n / 256)) (at + i) (at + (i + 1)) (n % 256) (omega arith))
 
-pub number-end : (l : List ℕ) (at n i : ℕ) → i ≤ 8 → min 8 (length l - at) ≤ i → sets l (at + i) (bytesOf (8 - i) n) ≡ l
-unfolding bytesOf
+pub number-end : (l : List ℕ) (at n i : ℕ) → i ≤ 8 → min 8 (length l - at) ≤ i → sets l (at + i) (littleEndian (8 - i) n) ≡ l
+unfolding littleEndian
 number-end l at n i h g =
-    ⊎-elim (λ e. let z : 8 - i ≡ 0 = omega (arith, e) in rw z) (λ k. sets-out l (bytesOf (8 - i) n) (at + i) (omega (arith, k))) (eq-or-lt-of-le h)
+    ⊎-elim (λ e. let z : 8 - i ≡ 0 = omega (arith, e) in rw z) (λ k. sets-out l (littleEndian (8 - i) n) (at + i) (omega (arith, k))) (eq-or-lt-of-le h)
 
 -- ---- one run of bytes after another
 
@@ -67,22 +67,22 @@ pub sets-append : (l s t : List ℕ) (at : ℕ) → sets l at (s ++ t) ≡ sets 
 sets-append l [] t at = rw (add-zero at)
 sets-append l (x ∷ s) t at = sets-append (set l at x) s t (suc at) ∙ (rw (suc-add at (length s), ← add-suc at (length s)))
 
-pub long-bytes : (k n : ℕ) → length (bytesOf k n) ≡ k
-unfolding bytesOf
+pub long-bytes : (k n : ℕ) → length (littleEndian k n) ≡ k
+unfolding littleEndian
 long-bytes zero n = refl
 long-bytes (suc k) n = ap suc (long-bytes k (n / 256))
 
 pub long-all : (ns : List ℕ) → length (allBytes ns) ≡ 8 * length ns
 unfolding allBytes
 long-all [] = refl
-long-all (n ∷ ns) = length-append (bytesOf 8 n) (allBytes ns) ∙ (rw (long-bytes 8 n, long-all ns) (omega arith))
+long-all (n ∷ ns) = length-append (littleEndian 8 n) (allBytes ns) ∙ (rw (long-bytes 8 n, long-all ns) (omega arith))
 
 -- a loop that writes numbers: a turn, and its end
-pub numbers-turn : (ns l m : List ℕ) (at i : ℕ) → i < length ns → m ≡ sets l (at + 8 * i) (bytesOf 8 (getD ns i 0)) → sets l (at + 8 * i) (allBytes (drop i ns)) ≡ sets m (at + 8 * (i + 1)) (allBytes (drop (i + 1) ns))
+pub numbers-turn : (ns l m : List ℕ) (at i : ℕ) → i < length ns → m ≡ sets l (at + 8 * i) (littleEndian 8 (getD ns i 0)) → sets l (at + 8 * i) (allBytes (drop i ns)) ≡ sets m (at + 8 * (i + 1)) (allBytes (drop (i + 1) ns))
 unfolding allBytes
 numbers-turn ns l m at i h e =
     let k : at + 8 * i + 8 ≡ at + 8 * suc i = omega arith in
-    rw (e, drop-cons ns i 0 h, add-one i) (sets-append l (bytesOf 8 (getD ns i 0)) (allBytes (drop (suc i) ns)) (at + 8 * i) ∙ (rw (long-bytes 8 (getD ns i 0), k)))
+    rw (e, drop-cons ns i 0 h, add-one i) (sets-append l (littleEndian 8 (getD ns i 0)) (allBytes (drop (suc i) ns)) (at + 8 * i) ∙ (rw (long-bytes 8 (getD ns i 0), k)))
 
 pub numbers-end : (ns l : List ℕ) (at i : ℕ) → length ns ≤ i → sets l (at + 8 * i) (allBytes (drop i ns)) ≡ l
 unfolding allBytes
@@ -100,8 +100,8 @@ long-next p s n k m e f g = length-append p s ∙ (rw (e, f, g))
 -- ---- read back
 
 -- the number of a number's bytes
-pub number-back : (k n : ℕ) → n < 256 ^ k → number (bytesOf k n) ≡ n
-unfolding number bytesOf
+pub number-back : (k n : ℕ) → n < 256 ^ k → number (littleEndian k n) ≡ n
+unfolding number littleEndian
 number-back zero n h = omega (arith, h)
 number-back (suc k) n h =
     let i : n / 256 < 256 ^ k = omega (arith, rw (pow-suc 256 k) at h) in
@@ -126,6 +126,6 @@ part-there {whole} {n} {s} {ss} e k h =
     ext-getD 0 (part whole n k) s (long-up-to _ k ∙ sym h)
     (λ i j. at-up-to (λ i. getD whole (n + i) 0) k i 0 (omega (arith, long-up-to (λ i. getD whole (n + i) 0) k)) ∙ sym (getD-drop n whole i 0) ∙ ap (λ (l : List ℕ). getD l i 0) (e .there) ∙ List·getD-append s (concat ss) 0 i (omega (arith, long-up-to (λ i. getD whole (n + i) 0) k)))
 
-pub number-there : {whole : List ℕ} {n : ℕ} {ss : List (List ℕ)} → (x : ℕ) → At whole n (bytesOf 8 x ∷ ss) → x < 2 ^ 64 → numberAt whole n ≡ x
+pub number-there : {whole : List ℕ} {n : ℕ} {ss : List (List ℕ)} → (x : ℕ) → At whole n (littleEndian 8 x ∷ ss) → x < 2 ^ 64 → numberAt whole n ≡ x
 unfolding numberAt
 number-there x e h = rw (part-there e 8 (long-bytes 8 x)) (number-back 8 x h)

@@ -8,7 +8,7 @@ use Rattle.ring.specs.declared.KeyRecord.{KeyRecord}
 use Rattle.ring.specs.declared.KeyRing.{KeyRing}
 use Rattle.stream.specs.Limits.{ringLimit}
 use Rattle.stream.specs.Ring.{Trusted, Ring}
-use Rattle.packing.specs.Parts.{bytesOf, upTo, part, numberAt}
+use Rattle.packing.specs.Parts.{littleEndian, upTo, part, numberAt}
 
 -- a key of 32 bytes, the first and the last second
 abbrev pub recordSize : ℕ
@@ -33,7 +33,7 @@ keysIn l = record { count = countOf (length l); records = upTo (recordAt l) ring
 -- ---- a ring written down
 
 unfoldable pub keyBytes : Trusted → List ℕ
-keyBytes k = k .key ++ bytesOf 8 (k .first) ++ bytesOf 8 (k .last)
+keyBytes k = k .key ++ littleEndian 8 (k .first) ++ littleEndian 8 (k .last)
 
 unfoldable pub ringBytes : Ring → List ℕ
 ringBytes [] = []

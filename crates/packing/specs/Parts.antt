@@ -7,14 +7,14 @@ use lib.Seq.{sets}
 use Rattle.octets.specs.Choice.{pick}
 
 -- a number as k bytes, the lowest first
-unfoldable pub bytesOf : ℕ → ℕ → List ℕ
-bytesOf zero n = []
-bytesOf (suc k) n = n % 256 ∷ bytesOf k (n / 256)
+unfoldable pub littleEndian : ℕ → ℕ → List ℕ
+littleEndian zero n = []
+littleEndian (suc k) n = n % 256 ∷ littleEndian k (n / 256)
 
 -- numbers of 8 bytes each
 unfoldable pub allBytes : List ℕ → List ℕ
 allBytes [] = []
-allBytes (n ∷ ns) = bytesOf 8 n ++ allBytes ns
+allBytes (n ∷ ns) = littleEndian 8 n ++ allBytes ns
 
 -- the number that bytes write, the lowest first
 unfoldable pub number : List ℕ → ℕ

@@ -3,7 +3,7 @@ ghost use mathlib.Core.Path.{_≡_};
 ghost use Prim.Native.Nat.{_+_, _-_, _*_, _%_, _≤_, min};
 ghost use lib.ListN.{length, getD};
 ghost use lib.Seq.{sets};
-ghost use Rattle.packing.specs.Parts.{bytesOf, allBytes, part, numberAt, placing, placed};
+ghost use Rattle.packing.specs.Parts.{littleEndian, allBytes, part, numberAt, placing, placed};
 
 // The byte at a place, 0 past the end.
 fn byte_at(from: &[u8], i: usize) -> u8
@@ -97,7 +97,7 @@ fn low_byte(n: u64) -> u8
 
 // Writes a number over eight bytes, from the place `at` on, whatever that is.
 fn write_number(to: &mut [u8], at: usize, n: u64)
-    ensures { λ _. ⌜ now (to .exit) ≡ sets (now (to .entry)) at (bytesOf 8 n) ⌝ }
+    ensures { λ _. ⌜ now (to .exit) ≡ sets (now (to .entry)) at (littleEndian 8 n) ⌝ }
 {
     let end = room(8, to.len(), at);
     let mut rest = n;
@@ -112,7 +112,7 @@ fn write_number(to: &mut [u8], at: usize, n: u64)
 
 // The same at a place of a layout.
 pub fn put_number(to: &mut [u8], at: u16, n: u64)
-    ensures { λ _. ⌜ now (to .exit) ≡ sets (now (to .entry)) at (bytesOf 8 n) ⌝ }
+    ensures { λ _. ⌜ now (to .exit) ≡ sets (now (to .entry)) at (littleEndian 8 n) ⌝ }
 {
     write_number(to, at as usize, n);
 }

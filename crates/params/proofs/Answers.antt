@@ -5,7 +5,7 @@ use mathlib.Core.Path.{_≡_, refl, ap, _∙_}
 use Prim.Native.Nat.{ℕ, _≤_}
 use lib.ListN.{length}
 use Rattle.octets.specs.Choice.{pick}
-use Rattle.base64.specs.Base64.{isText, bytesOf}
+use Rattle.base64.specs.Base64.{isBase64, base64Bytes}
 use Rattle.stream.specs.Bytes.{between}
 use Rattle.stream.specs.Numbers.{isDecimal, decimalValue}
 use Rattle.stream.specs.Signatures.{isInjection, idText, timeText, isBsigs, keyText, blockSizeText, isSig0, createdText, namesText, headSignatureText}
@@ -48,13 +48,13 @@ module _ (s : Scanned) where
   bsigs-says = told (λ (r : Bsigs). r .good) (isBsigs s) _ _ refl refl
 
   module _ (h : isBsigs s ≡ true) where
-    pub bsigs-is : bsigsOf s ≡ record { good = true; key = bytesOf 32 (keyText s); size = decimalValue (blockSizeText s) }
+    pub bsigs-is : bsigsOf s ≡ record { good = true; key = base64Bytes 32 (keyText s); size = decimalValue (blockSizeText s) }
     unfolding bsigsOf
     bsigs-is = rw h
 
     pub size-fits : (1 ≤ decimalValue (blockSizeText s)) × (decimalValue (blockSizeText s) ≤ 65536)
     unfolding isBsigs
-    size-fits = within 1 65536 _ (right-holds (isDecimal 5 (blockSizeText s)) _ (right-holds (isText 32 (keyText s)) _ (right-holds (isLike s) _ h)))
+    size-fits = within 1 65536 _ (right-holds (isDecimal 5 (blockSizeText s)) _ (right-holds (isBase64 32 (keyText s)) _ (right-holds (isLike s) _ h)))
 
 -- ---- `X-Ouinet-Sig0`
 
@@ -64,11 +64,11 @@ module _ {value : List ℕ} {s : Scanned} {r : Sig0} (h : ReadsSig0 value s r) w
   sig0-says = ap (λ (x : HeadSig). x .good) (h .meaning) ∙ told (λ (x : HeadSig). x .good) (isSig0 s) _ _ refl refl
 
   module _ (g : isSig0 s ≡ true) where
-    pub sig0-is : headSigIn value r ≡ record { good = true; key = bytesOf 32 (keyText s); created = createdText s; names = namesText s; signature = bytesOf 64 (headSignatureText s) }
+    pub sig0-is : headSigIn value r ≡ record { good = true; key = base64Bytes 32 (keyText s); created = createdText s; names = namesText s; signature = base64Bytes 64 (headSignatureText s) }
     unfolding headSigOf
     sig0-is = h .meaning ∙ rw g
 
-    pub sig0-key : r .key ≡ bytesOf 32 (keyText s)
+    pub sig0-key : r .key ≡ base64Bytes 32 (keyText s)
     unfolding headSigIn
     sig0-key = ap (λ (x : HeadSig). x .key) sig0-is
 
@@ -80,6 +80,6 @@ module _ {value : List ℕ} {s : Scanned} {r : Sig0} (h : ReadsSig0 value s r) w
     unfolding headSigIn
     sig0-names = ap (λ (x : HeadSig). x .names) sig0-is
 
-    pub sig0-signature : r .signature ≡ bytesOf 64 (headSignatureText s)
+    pub sig0-signature : r .signature ≡ base64Bytes 64 (headSignatureText s)
     unfolding headSigIn
     sig0-signature = ap (λ (x : HeadSig). x .signature) sig0-is

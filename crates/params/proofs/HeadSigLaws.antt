@@ -7,7 +7,7 @@ use native.Mathlib.Omega.{arith}
 use lib.ListN.{length, drop}
 use Rattle.octets.specs.Octets.{octets}
 use Rattle.base64.proofs.Laws.{answer-is, buffer-read}
-use Rattle.base64.specs.Base64.{isText, bytesOf}
+use Rattle.base64.specs.Base64.{isBase64, base64Bytes}
 use Rattle.base64.specs.Decoding.{answered, decoded}
 use Rattle.stream.specs.Bytes.{isDigit, isQuoted}
 use Rattle.stream.specs.Numbers.{isDecimal}
@@ -52,26 +52,26 @@ module _ (value k c n g : List ℕ) where
   abbrev scanned : Scanned
   scanned = parts (k ∷ c ∷ n ∷ g ∷ [])
 
-  pub key-bad : isText 32 k ≡ false → ReadsSig0 value scanned noSig0
+  pub key-bad : isBase64 32 k ≡ false → ReadsSig0 value scanned noSig0
   unfolding isSig0
   key-bad e = sig0-none value scanned (rw e)
 
   pub created-bad : isDecimal 12 c ≡ false → ReadsSig0 value scanned noSig0
   unfolding isSig0
-  created-bad e = sig0-none value scanned (rw (e, both-false (isText 32 k)))
+  created-bad e = sig0-none value scanned (rw (e, both-false (isBase64 32 k)))
 
-  pub signature-bad : isText 64 g ≡ false → ReadsSig0 value scanned noSig0
+  pub signature-bad : isBase64 64 g ≡ false → ReadsSig0 value scanned noSig0
   unfolding isSig0
-  signature-bad e = sig0-none value scanned (rw (e, both-false (isDecimal 12 c), both-false (isText 32 k)))
+  signature-bad e = sig0-none value scanned (rw (e, both-false (isDecimal 12 c), both-false (isBase64 32 k)))
 
 -- all tests passed: the key k, `created` and the names at their runs, the signature g
 module _ (value k g : List ℕ) (c n : Run) (i : Inside value c) (j : Inside value n) where
-  pub sig0-good : isText 32 k ≡ true → isDecimal 12 (runBytes value c) ≡ true → isText 64 g ≡ true
+  pub sig0-good : isBase64 32 k ≡ true → isDecimal 12 (runBytes value c) ≡ true → isBase64 64 g ≡ true
       → ReadsSig0 value (parts (k ∷ runBytes value c ∷ runBytes value n ∷ g ∷ []))
       (record {
         good = true;
-        key = bytesOf 32 k;
-        signature = bytesOf 64 g;
+        key = base64Bytes 32 k;
+        signature = base64Bytes 64 g;
         «created_start» = c .start;
         «created_end» = c .end;
         «names_start» = n .start;
@@ -105,10 +105,10 @@ module _ (value : List ℕ) (at : ℕ) where
 -- ---- a text decoded, where u is another name for it
 
 module _ (n : ℕ) (t before u : List ℕ) {ok : Bool} {after : List ℕ} (said : answered ok after ≡ decoded n t before) (e : t ≡ u) where
-  pub decoded-no : ok ≡ false → isText n u ≡ false
-  decoded-no h = ap (isText n) (sym e) ∙ sym (answer-is n t before said) ∙ h
+  pub decoded-no : ok ≡ false → isBase64 n u ≡ false
+  decoded-no h = ap (isBase64 n) (sym e) ∙ sym (answer-is n t before said) ∙ h
 
-  pub decoded-yes : ok ≡ true → (isText n u ≡ true) × (after ≡ bytesOf n u)
+  pub decoded-yes : ok ≡ true → (isBase64 n u ≡ true) × (after ≡ base64Bytes n u)
   decoded-yes h =
       let k = sym (answer-is n t before said) ∙ h in
-      (ap (isText n) (sym e) ∙ k, buffer-read n t before said k ∙ ap (bytesOf n) e)
+      (ap (isBase64 n) (sym e) ∙ k, buffer-read n t before said k ∙ ap (base64Bytes n) e)

@@ -2,7 +2,7 @@
 use mathlib.Core.Bool.{true, false}
 use lib.ListN.{replicate}
 use Rattle.octets.specs.Choice.{pick}
-use Rattle.base64.specs.Base64.{bytesOf}
+use Rattle.base64.specs.Base64.{base64Bytes}
 use Rattle.stream.specs.Numbers.{decimalValue}
 use Rattle.stream.specs.Signatures.{isBsigs, keyText, blockSizeText}
 use Rattle.stream.specs.Template.{Scanned}
@@ -12,5 +12,5 @@ use Rattle.params.specs.declared.bsigs.Bsigs.{Bsigs}
 unfoldable pub bsigsOf : Scanned → Bsigs
 bsigsOf s =
     pick (isBsigs s)
-    (record { good = true; key = bytesOf 32 (keyText s); size = decimalValue (blockSizeText s) })
+    (record { good = true; key = base64Bytes 32 (keyText s); size = decimalValue (blockSizeText s) })
     (record { good = false; key = replicate 32 0; size = 0 })

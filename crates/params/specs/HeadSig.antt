@@ -5,7 +5,7 @@ use mathlib.Core.Path.{_≡_}
 use Prim.Native.Nat.{ℕ, _≤_}
 use lib.ListN.{length, replicate}
 use Rattle.octets.specs.Choice.{pick}
-use Rattle.base64.specs.Base64.{bytesOf}
+use Rattle.base64.specs.Base64.{base64Bytes}
 use Rattle.stream.specs.Signatures.{isSig0, keyText, createdText, namesText, headSignatureText}
 use Rattle.stream.specs.Template.{Scanned}
 use Rattle.places.specs.Place.{partOf}
@@ -23,7 +23,7 @@ pub record HeadSig : Type 0 where
 unfoldable pub headSigOf : Scanned → HeadSig
 headSigOf s =
     pick (isSig0 s)
-    (record { good = true; key = bytesOf 32 (keyText s); created = createdText s; names = namesText s; signature = bytesOf 64 (headSignatureText s) })
+    (record { good = true; key = base64Bytes 32 (keyText s); created = createdText s; names = namesText s; signature = base64Bytes 64 (headSignatureText s) })
     (record { good = false; key = replicate 32 0; created = []; names = []; signature = replicate 64 0 })
 
 -- an answer, with the texts at its places in the value

@@ -7,8 +7,8 @@ use Prim.Native.Nat.{ℕ, suc, _+_}
 use native.Mathlib.Omega.{arith}
 use lib.ListN.{length, replicate}
 use Rattle.sections.specs.Reading.{last, Log, Grant, granted, final, Verdict, go, tell, ask, stop, Rules, accepted}
-use Rattle.sections.specs.Calls.{Word}
-use Rattle.sections.specs.Machine.{State, running, asked, finished, Step, on, decides, Turn, rule, oneMore, follow, gathered, step, fed, replied}
+use Rattle.sections.specs.Calls.{Reply}
+use Rattle.sections.specs.Machine.{State, running, asked, finished, Step, on, decides, Turn, ruling, oneMore, follow, gathered, step, fed, replied}
 use Rattle.sections.specs.Resuming.{heard}
 use Rattle.sections.proofs.States.{stands, Fits, stepped, step-fits, scan-step}
 use Rattle.sections.proofs.Scans.{scan}
@@ -41,7 +41,7 @@ module _ {C Q E L : Type 0} (R : Rules C Q E L) where
   Stepped end (decides e s) left n = Ahead end s left n
 
   rule-ahead : {end n : ℕ} (at : ℕ) (left : List ℕ) (v : Verdict C Q E L) → at + length left ≡ end
-      → Closing end n (stepped R (rule v) at left (replicate n true) false) → Stepped end (rule v) left n
+      → Closing end n (stepped R (ruling v) at left (replicate n true) false) → Stepped end (ruling v) left n
   rule-ahead at left (go c) p k = onward at p k
   rule-ahead at left (tell e c) p (tells k) = onward at p k
   rule-ahead at left (ask q y) p (asks k) = answering at p k
@@ -66,7 +66,7 @@ module _ {C Q E L : Type 0} (R : Rules C Q E L) where
   -- What a feed of a piece, with `rest` after it in the stream, comes to: it takes the piece's beginning f, and from there on
   -- the rest lies ahead; and its word tells where the reader stands.
   pub data Brought (end n : ℕ) (piece rest : List ℕ) : Turn C Q E L → Type 0 where
-    brought : (f r : List ℕ) {w : Word Q E L} {s : State C E L} → f ++ r ≡ piece → heard w ≡ true → afterWord w ≡ stands s
+    brought : (f r : List ℕ) {w : Reply Q E L} {s : State C E L} → f ++ r ≡ piece → heard w ≡ true → afterWord w ≡ stands s
         → Ahead end s (r ++ rest) n → Brought end n piece rest ((w, length f), s)
 
   brought-more : {end n : ℕ} {piece rest : List ℕ} (b : ℕ) {t : Turn C Q E L} → Brought end n piece rest t

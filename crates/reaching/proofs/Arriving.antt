@@ -8,7 +8,7 @@ use native.Mathlib.Omega.{arith}
 use lib.ListN.{length, drop, replicate, length-append, take-append-drop}
 use lib.Seq.{take-append-seam, drop-append-seam}
 use Rattle.sections.specs.Reading.{Grant, granted, final, Rules, reading}
-use Rattle.sections.specs.Calls.{feed, answer, Call, call, Word, Out}
+use Rattle.sections.specs.Calls.{feed, answer, Call, call, Reply, Out}
 use Rattle.sections.specs.Machine.{State, running, asked, finished, Turn, fed, replied, respond, turn, runFrom, runCalls}
 use Rattle.sections.specs.Resuming.{Begins, heard, Resumes, bytesTaken, answersHeard}
 use Rattle.sections.proofs.Pieces.{feed-takes-one}
@@ -24,7 +24,7 @@ unfolding Resumes bytesTaken answersHeard
 arrived = record { resumes = tt; took = refl; yeses = refl }
 
 -- a feed, of which f was taken, and then the other calls
-feed-first : {Q E L : Type 0} {n : ℕ} {ks : List Call} {os : List (Out Q E L)} {w : Word Q E L} (f r piece rest : List ℕ) → f ++ r ≡ piece
+feed-first : {Q E L : Type 0} {n : ℕ} {ks : List Call} {os : List (Out Q E L)} {w : Reply Q E L} (f r piece rest : List ℕ) → f ++ r ≡ piece
     → heard w ≡ true → Arrives (r ++ rest) n ks os → Arrives (piece ++ rest) n (call true (feed piece) ∷ ks) ((w, length f) ∷ os)
 unfolding Resumes bytesTaken answersHeard
 feed-first f r piece rest p h a =
@@ -35,7 +35,7 @@ feed-first f r piece rest p h a =
     }
 
 -- a yes, and then the other calls
-yes-first : {Q E L : Type 0} {n : ℕ} {ks : List Call} {os : List (Out Q E L)} {w : Word Q E L} {left : List ℕ}
+yes-first : {Q E L : Type 0} {n : ℕ} {ks : List Call} {os : List (Out Q E L)} {w : Reply Q E L} {left : List ℕ}
     → heard w ≡ true → Arrives left n ks os → Arrives left (suc n) (call true (answer true) ∷ ks) ((w, 0) ∷ os)
 unfolding Resumes bytesTaken answersHeard
 yes-first h a =

@@ -16,7 +16,7 @@ use Rattle.stream.specs.Ring.{Ring}
 use Rattle.stream.specs.Stream.{head, rules, plainReading}
 use Rattle.exactness.specs.Beginning.{Beginning, opening, onward, blocks, questions}
 use Rattle.exactness.specs.ShowEvents.{showEvents}
-use Rattle.exactness.specs.Shows.{WholeShow, joined, streamOf, Honest, beginningOf}
+use Rattle.exactness.specs.Shows.{WholeShow, bodyOf, streamOf, Honest, beginningOf}
 use Rattle.exactness.specs.Telling.{logOf}
 use Rattle.exactness.proofs.Completeness.{show-complete}
 use Rattle.exactness.proofs.HonestShows.{show-written, show-body, show-blocks}
@@ -38,7 +38,7 @@ module _ (ring : Ring) where
 
   -- the events of a show: its last word is *closed*, with the total, at the place of all its bytes
   show-events : (s : WholeShow) → Honest ring s
-      → logOf ring (beginningOf s) ++ (length (streamOf s), last (closed (length (joined (s .chunks))))) ∷ [] ≡ showEvents ring s
+      → logOf ring (beginningOf s) ++ (length (streamOf s), last (closed (length (bodyOf (s .chunks))))) ∷ [] ≡ showEvents ring s
   show-events s h = rw (← show-log ring s h, show-written s, show-body s)
 
   show-closing : (s : WholeShow) → Honest ring s → Closing (length (streamOf s)) (suc (length (s .chunks))) (showEvents ring s)
@@ -62,7 +62,7 @@ module _ (ring : Ring) where
       let e : events (showOuts ring lengths s) ≡ showEvents ring s =
       run-took (rules ring) head (showCalls ring lengths s)
       ∙ rw (a .took, a .yeses) (show-read s (endHeard (showCalls ring lengths s) (showOuts ring lengths s)) h) in
-      let l : events (showOuts ring lengths s) ≡ logOf ring (beginningOf s) ++ (length (streamOf s), last (closed (length (joined (s .chunks))))) ∷ [] =
+      let l : events (showOuts ring lengths s) ≡ logOf ring (beginningOf s) ++ (length (streamOf s), last (closed (length (bodyOf (s .chunks))))) ∷ [] =
       e ∙ sym (show-events s h) in
       record {
         resumes = a .resumes;
@@ -71,5 +71,5 @@ module _ (ring : Ring) where
         all-events = e;
         before-closed = logOf ring (beginningOf s);
         then-closed = l;
-        is-over = rw l (standing-snoc (logOf ring (beginningOf s)) (length (streamOf s)) (last (closed (length (joined (s .chunks))))));
+        is-over = rw l (standing-snoc (logOf ring (beginningOf s)) (length (streamOf s)) (last (closed (length (bodyOf (s .chunks))))));
       }

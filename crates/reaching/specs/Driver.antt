@@ -6,7 +6,7 @@ use mathlib.Core.List.{List, [], _∷_}
 use Prim.Native.Nat.{ℕ, zero, suc, _+_, _*_}
 use lib.ListN.{length, take, drop}
 use Rattle.sections.specs.Reading.{Rules}
-use Rattle.sections.specs.Calls.{Request, feed, answer, Call, call, Word, more, event, misused, Standing, going, asking, over, standingAt}
+use Rattle.sections.specs.Calls.{Request, feed, answer, Call, call, Reply, more, event, misused, Standing, going, asking, over, standingAt}
 use Rattle.sections.specs.Machine.{State, running, turn}
 
 -- ---- how a stream is cut
@@ -25,7 +25,7 @@ otherLengths (n ∷ lengths) = lengths
 -- ---- what to do next
 
 -- After a question an answer is due, after a last word nothing; else reading goes on. After a refused call the caller gives up.
-abbrev pub afterWord : {Q E L : Type 0} → Word Q E L → Standing
+abbrev pub afterWord : {Q E L : Type 0} → Reply Q E L → Standing
 afterWord more = going
 afterWord (event e) = standingAt e
 afterWord (misused n) = over

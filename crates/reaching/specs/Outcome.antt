@@ -12,7 +12,7 @@ use Rattle.stream.specs.Events.{Question, Release, LastWord, closed}
 use Rattle.stream.specs.Ring.{Ring}
 use Rattle.stream.specs.Stream.{head, rules}
 use Rattle.exactness.specs.ShowEvents.{showEvents}
-use Rattle.exactness.specs.Shows.{WholeShow, joined, streamOf}
+use Rattle.exactness.specs.Shows.{WholeShow, bodyOf, streamOf}
 use Rattle.reaching.specs.Driver.{callsOver}
 
 module _ (ring : Ring) where
@@ -34,5 +34,5 @@ module _ (ring : Ring) where
     pub all-events : events os ≡ showEvents ring s
     -- the last of them, at the place of all bytes, is *closed* with the length of the body; it is a last word, and the run is over
     pub before-closed : Log Question Release LastWord
-    pub then-closed : events os ≡ before-closed ++ (length (streamOf s), last (closed (length (joined (s .chunks))))) ∷ []
+    pub then-closed : events os ≡ before-closed ++ (length (streamOf s), last (closed (length (bodyOf (s .chunks))))) ∷ []
     pub is-over : standing (events os) ≡ over

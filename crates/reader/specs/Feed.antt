@@ -8,7 +8,7 @@ use Rattle.ring.specs.Keys.{ringOf}
 use Rattle.ring.specs.declared.KeyRing.{KeyRing}
 use Rattle.stream.specs.Limits.{ringLimit}
 use Rattle.stream.specs.Ring.{Ring}
-use Rattle.state.specs.Desk.{Desk, Next, stop, noSignature}
+use Rattle.state.specs.Configuration.{Configuration, Next, stop, noSignature}
 use Rattle.state.specs.Run.{Fed, more, event, runOf}
 use Rattle.state.specs.declared.phase.Phase.{Phase}
 use Rattle.state.specs.declared.phase.Phase.the-variants as P
@@ -18,10 +18,10 @@ use Rattle.line_steps.specs.FirstLine.{pushFirstLine}
 use Rattle.line_steps.specs.NextLine.{pushNextLine}
 use Rattle.body_steps.specs.Data.{pushData, pushDataEnd}
 use Rattle.body_steps.specs.Trailer.{pushTrailer}
-use Rattle.calls.specs.Call.{Call, call, telling, unchanged, fits, isReading, recalled}
+use Rattle.calls.specs.Response.{Response, response, telling, unchanged, fits, isReading, recalled}
 
 -- one byte, by the phase; a feed pushes none where a question is open or the last word is said
-unfoldable pub pushAt : Ring → Phase → Desk → ℕ → Next
+unfoldable pub pushAt : Ring → Phase → Configuration → ℕ → Next
 pushAt ring (P.Head have) d x = pushHead ring d have x
 pushAt ring (P.HeadAsked n) d x = stop (W.Refused 1) noSignature d
 pushAt ring (P.FirstLine have) d x = pushFirstLine d have x
@@ -33,20 +33,20 @@ pushAt ring (P.Trailer have total) d x = pushTrailer d have total x
 pushAt ring (P.Closed total) d x = stop (W.Refused 1) noSignature d
 pushAt ring (P.Refused n) d x = stop (W.Refused 1) noSignature d
 
-abbrev pub pushByte : Ring → Desk → ℕ → Next
+abbrev pub pushByte : Ring → Configuration → ℕ → Next
 pushByte ring d x = pushAt ring (d .reader .phase) d x
 
 -- "takes bytes up to the first event, or all of them"; "with no event the word is more"
-abbrev pub fed : Fed → Call
+abbrev pub fed : Fed → Response
 fed (more taken d) = telling W.More taken d
-fed (event w signature taken d) = call w taken signature d
+fed (event w signature taken d) = response w taken signature d
 
-unfoldable pub takenFrom : Ring → Desk → List ℕ → Call
+unfoldable pub takenFrom : Ring → Configuration → List ℕ → Response
 takenFrom ring d piece = fed (runOf (pushByte ring) d 0 piece)
 
 -- 2 where "a hold is shorter" or "a lent ring has over 16 records"; then 1 for a "feed with a question open" or "any call after a
 -- final event"
-unfoldable pub feedOf : KeyRing → Desk → List ℕ → Call
+unfoldable pub feedOf : KeyRing → Configuration → List ℕ → Response
 feedOf ring d piece =
     pick (fits d && leb (ring .count) ringLimit)
     (pick (isReading (d .reader .phase)) (takenFrom (ringOf ring) (recalled d) piece) (unchanged 1 d))

@@ -14,8 +14,8 @@ use state::Stepped;
 use state::Word;
 ghost use mathlib.Core.Path.{_≡_};
 ghost use Rattle.ring.specs.Keys.{ringOf};
-ghost use Rattle.state.specs.Desk.{desk, nextOf};
-ghost use Rattle.calls.specs.Call.{made};
+ghost use Rattle.state.specs.Configuration.{configuration, nextOf};
+ghost use Rattle.calls.specs.Response.{made};
 ghost use Rattle.reader.specs.Feed.{pushByte, takenFrom, feedOf};
 
 // One byte, by the phase. In a phase that takes no bytes nothing changes.
@@ -27,7 +27,7 @@ fn push(
     ring: KeyRing,
     x: u8,
 ) -> Stepped
-    ensures { λ s. ⌜ nextOf s (now (head .exit)) (now (block .exit)) (now (question .exit)) ≡ pushByte (ringOf ring) (desk r (now (head .entry)) (now (block .entry)) (now (question .entry))) x ⌝ }
+    ensures { λ s. ⌜ nextOf s (now (head .exit)) (now (block .exit)) (now (question .exit)) ≡ pushByte (ringOf ring) (configuration r (now (head .entry)) (now (block .entry)) (now (question .entry))) x ⌝ }
 {
     let phase = r.phase;
     match phase {
@@ -61,7 +61,7 @@ fn take(
     ring: KeyRing,
     piece: &[u8],
 ) -> Outcome
-    ensures { λ o. ⌜ made o (now (head .exit)) (now (block .exit)) (now (question .exit)) ≡ takenFrom (ringOf ring) (desk r (now (head .entry)) (now (block .entry)) (now (question .entry))) (now (piece .entry)) ⌝ }
+    ensures { λ o. ⌜ made o (now (head .exit)) (now (block .exit)) (now (question .exit)) ≡ takenFrom (ringOf ring) (configuration r (now (head .entry)) (now (block .entry)) (now (question .entry))) (now (piece .entry)) ⌝ }
 {
     let mut state = r;
     let mut taken = 0;
@@ -94,7 +94,7 @@ pub fn feed(
     ring: KeyRing,
     piece: &[u8],
 ) -> Outcome
-    ensures { λ o. ⌜ made o (now (head .exit)) (now (block .exit)) (now (question .exit)) ≡ feedOf ring (desk r (now (head .entry)) (now (block .entry)) (now (question .entry))) (now (piece .entry)) ⌝ }
+    ensures { λ o. ⌜ made o (now (head .exit)) (now (block .exit)) (now (question .exit)) ≡ feedOf ring (configuration r (now (head .entry)) (now (block .entry)) (now (question .entry))) (now (piece .entry)) ⌝ }
 {
     if !are_roomy(head.len(), block.len(), question.len()) {
         return unchanged(r, 2);

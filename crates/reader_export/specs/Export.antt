@@ -12,10 +12,10 @@ use Rattle.packing.specs.Parts.{Placed, placing, placed}
 use Rattle.results.specs.Written.{Answer, made, areLong, answered}
 use Rattle.layout.specs.State.{stateSize, stored, decoded}
 use Rattle.calls.specs.Answer.{answerOf, endOf}
-use Rattle.calls.specs.Call.{Call}
+use Rattle.calls.specs.Response.{Response}
 use Rattle.reader.specs.Feed.{feedOf}
 use Rattle.handing.specs.Released.{blockPart}
-use Rattle.state.specs.Desk.{Desk, desk, freshReader}
+use Rattle.state.specs.Configuration.{Configuration, configuration, freshReader}
 
 -- the answer where the buffer of the state or of the result is too short: nothing is changed then
 abbrev pub short : ℕ
@@ -35,24 +35,24 @@ begunIn s = pick (leb stateSize (length s)) (begun 0 (stored freshReader s)) (be
 
 -- ---- the three calls
 
-unfoldable pub called : List ℕ → List ℕ → List ℕ → List ℕ → List ℕ → Call → Answer
+unfoldable pub called : List ℕ → List ℕ → List ℕ → List ℕ → List ℕ → Response → Answer
 called s h b q t c = pick (areLong (length s) (length t)) (answered s t c) (made short s h b q t)
 
 -- the reader that the bytes say, with the buffers that it is lent
-abbrev pub deskIn : List ℕ → List ℕ → List ℕ → List ℕ → Desk
-deskIn s h b q = desk (decoded s) h b q
+abbrev pub configurationIn : List ℕ → List ℕ → List ℕ → List ℕ → Configuration
+configurationIn s h b q = configuration (decoded s) h b q
 
-abbrev pub feedIn : List ℕ → List ℕ → List ℕ → List ℕ → List ℕ → List ℕ → Call
-feedIn s h b q ring piece = feedOf (keysIn ring) (deskIn s h b q) piece
+abbrev pub feedIn : List ℕ → List ℕ → List ℕ → List ℕ → List ℕ → List ℕ → Response
+feedIn s h b q ring piece = feedOf (keysIn ring) (configurationIn s h b q) piece
 
 abbrev pub isYes : ℕ → Bool
 isYes n = not (eqb n 0)
 
-abbrev pub answerIn : List ℕ → List ℕ → List ℕ → List ℕ → Bool → Call
-answerIn s h b q good = answerOf (deskIn s h b q) good
+abbrev pub answerIn : List ℕ → List ℕ → List ℕ → List ℕ → Bool → Response
+answerIn s h b q good = answerOf (configurationIn s h b q) good
 
-abbrev pub endIn : List ℕ → List ℕ → List ℕ → List ℕ → Call
-endIn s h b q = endOf (deskIn s h b q)
+abbrev pub endIn : List ℕ → List ℕ → List ℕ → List ℕ → Response
+endIn s h b q = endOf (configurationIn s h b q)
 
 -- ---- what is handed out
 

@@ -7,13 +7,13 @@ use lib.ListN.{length}
 use Rattle.results.specs.Results.{wordOf, resultIn}
 use Rattle.layout.specs.State.{decoded}
 use Rattle.calls.specs.Answer.{answerOf, endOf}
-use Rattle.calls.specs.Call.{Call}
+use Rattle.calls.specs.Response.{Response}
 use Rattle.reader.specs.Feed.{feedOf}
 use Rattle.ring.specs.declared.KeyRing.{KeyRing}
 use Rattle.sections.specs.Calls.{Request, feed, answer, end}
-use Rattle.state.specs.Desk.{Desk}
+use Rattle.state.specs.Configuration.{Configuration}
 use Rattle.results.specs.Written.{Answer, areLong}
-use Rattle.reader_export.specs.Export.{called, deskIn, feedIn, answerIn, endIn}
+use Rattle.reader_export.specs.Export.{called, configurationIn, feedIn, answerIn, endIn}
 
 -- what a call asks for, and the buffer that is lent for its result
 pub record Ask : Type 0 where
@@ -23,7 +23,7 @@ pub record Ask : Type 0 where
 -- ---- on bytes
 
 -- by the exported function of each request; the ring's bytes are the same in all
-abbrev pub callIn : List ℕ → List ℕ → List ℕ → List ℕ → List ℕ → Request → Call
+abbrev pub callIn : List ℕ → List ℕ → List ℕ → List ℕ → List ℕ → Request → Response
 callIn ring s h b q (feed piece) = feedIn s h b q ring piece
 callIn ring s h b q (answer good) = answerIn s h b q good
 callIn ring s h b q end = endIn s h b q
@@ -41,7 +41,7 @@ pub data Calls (ring : List ℕ) : List ℕ → List ℕ → List ℕ → List �
 
 -- ---- the reader's own
 
-abbrev pub callOf : KeyRing → Desk → Request → Call
+abbrev pub callOf : KeyRing → Configuration → Request → Response
 callOf keys d (feed piece) = feedOf keys d piece
 callOf keys d (answer good) = answerOf d good
 callOf keys d end = endOf d
@@ -51,16 +51,16 @@ callOf keys d end = endOf d
 pub record Seen : Type 0 where
   pub word : ℕ
   pub result : List ℕ
-  pub after : Desk
+  pub after : Configuration
 
 abbrev pub seenIn : Answer → Seen
-seenIn a = record { word = a .word; result = a .result; after = deskIn (a .state) (a .head) (a .block) (a .question) }
+seenIn a = record { word = a .word; result = a .result; after = configurationIn (a .state) (a .head) (a .block) (a .question) }
 
-abbrev pub seenOf : List ℕ → Call → Seen
+abbrev pub seenOf : List ℕ → Response → Seen
 seenOf t c = record { word = wordOf (c .word); result = resultIn (c .word) (c .taken) (c .signature) t; after = c .after }
 
 -- the reader's calls, each with the reader and the buffers that the one before left
-unfoldable pub runOf : KeyRing → Desk → List Ask → List Seen
+unfoldable pub runOf : KeyRing → Configuration → List Ask → List Seen
 runOf keys d [] = []
 runOf keys d (k ∷ ks) =
     seenOf (k .result) (callOf keys d (k .request)) ∷ runOf keys (callOf keys d (k .request) .after) ks

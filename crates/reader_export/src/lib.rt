@@ -9,7 +9,7 @@ ghost use Prim.Native.Nat.{_≤_};
 ghost use lib.ListN.{length};
 ghost use Rattle.packing.specs.Parts.{placing};
 ghost use Rattle.layout.specs.State.{stateSize, decoded};
-ghost use Rattle.state.specs.Desk.{freshReader};
+ghost use Rattle.state.specs.Configuration.{freshReader};
 ghost use Rattle.results.specs.Written.{made, areLong};
 ghost use Rattle.reader_export.specs.Export.{called, begun, begunIn, feedIn, answerIn, endIn, isYes, blockIn, valueIn};
 

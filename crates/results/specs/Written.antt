@@ -4,7 +4,7 @@ use mathlib.Core.List.{List}
 use Prim.Native.Nat.{ℕ}
 use lib.Dec.{leb}
 use Rattle.layout.specs.State.{stateSize, stored}
-use Rattle.calls.specs.Call.{Call}
+use Rattle.calls.specs.Response.{Response}
 use Rattle.results.specs.Results.{resultSize, wordOf, resultIn}
 
 -- the number that is returned, and all bytes that are lent as they are then
@@ -24,7 +24,7 @@ unfoldable pub areLong : ℕ → ℕ → Bool
 areLong state result = leb stateSize state && leb resultSize result
 
 -- what a call of the reader gives, with the state after it and its result written down
-abbrev pub answered : List ℕ → List ℕ → Call → Answer
+abbrev pub answered : List ℕ → List ℕ → Response → Answer
 answered s t c =
     made (wordOf (c .word)) (stored (c .after .reader) s) (c .after .head) (c .after .block) (c .after .question)
     (resultIn (c .word) (c .taken) (c .signature) t)

@@ -8,7 +8,7 @@ ghost use mathlib.Core.Path.{_≡_};
 ghost use Prim.Native.Nat.{ℕ, _≤_};
 ghost use lib.ListN.{length};
 ghost use Rattle.layout.specs.State.{stateSize, decoded};
-ghost use Rattle.calls.specs.Call.{made as callOf};
+ghost use Rattle.calls.specs.Response.{made as callOf};
 ghost use Rattle.results.specs.Written.{made, areLong, answered};
 
 // Whether a state and a result fit buffers of these lengths.

@@ -6,8 +6,8 @@ use Prim.Native.Nat.{ℕ}
 use lib.ListN.{length}
 use lib.Seq.{drop-append-seam, drop-length}
 use Rattle.sections.specs.Reading.{Event, message, last, Log, Grant, granted, final, Rules, Cut, reading}
-use Rattle.sections.specs.Calls.{Request, feed, answer, end, Call, call, Word, event, misused, Out, going, standingAt, standing, History, history, refuses, leads, part, readRequest, readCall, readFrom}
-use Rattle.sections.specs.Machine.{State, running, asked, finished, Turn, replied, refused, respond, turn, runFrom}
+use Rattle.sections.specs.Calls.{Request, feed, answer, end, Call, call, Reply, event, misused, Out, going, standingAt, standing, History, history, refuses, leads, part, readRequest, readCall, readFrom}
+use Rattle.sections.specs.Machine.{State, running, asked, finished, Turn, replied, declined, respond, turn, runFrom}
 use Rattle.sections.specs.Resuming.{entry, heard, request}
 use Rattle.sections.proofs.Scans.{scan}
 use Rattle.sections.proofs.States.{stands}
@@ -21,7 +21,7 @@ size (history taken ans told) = length taken
 -- what a call that returns o adds to the history
 pub data Adds {Q E L : Type 0} : History → Request → Out Q E L → History → Type 0 where
   nothing : {h : History} {k : Request} {n : ℕ} → Adds h k (misused n, 0) h
-  bytes : {taken piece : List ℕ} (f r : List ℕ) {ans : List Bool} {w : Word Q E L} → heard w ≡ true → f ++ r ≡ piece
+  bytes : {taken piece : List ℕ} (f r : List ℕ) {ans : List Bool} {w : Reply Q E L} → heard w ≡ true → f ++ r ≡ piece
       → Adds (history taken ans false) (feed piece) (w, length f) (history (taken ++ f) ans false)
   reply : {taken : List ℕ} {ans : List Bool} {a : Bool} {e : Event Q E L}
       → Adds (history taken ans false) (answer a) (event e, 0) (history taken (ans ++ a ∷ []) false)
@@ -33,7 +33,7 @@ module _ {C Q E L : Type 0} (R : Rules C Q E L) (start : C) where
   Agrees h k log m r = (m .0 ≡ r .0) × Inv R start (r .1) (log ++ entry (size (r .1)) (m .0 .0)) (m .1) × Adds h k (m .0) (r .1)
 
   refusal-agrees : {h : History} {k : Request} {log : Log Q E L} {s : State C E L} (n : ℕ) → Inv R start h log s
-      → Agrees h k log (refused n s) (refuses n h)
+      → Agrees h k log (declined n s) (refuses n h)
   refusal-agrees n v = (refl, rw append-nil v, nothing)
 
   module _ {taken : List ℕ} {ans : List Bool} {log : Log Q E L} where

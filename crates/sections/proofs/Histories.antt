@@ -10,7 +10,7 @@ use lib.Seq.{take-append-seam}
 use Rattle.sections.specs.Reading.{Log, Rules, reading}
 use Rattle.sections.specs.Calls.{Request, Call, Out, History, history, fresh, read, readCall}
 use Rattle.sections.specs.Machine.{State, runFrom, runCalls}
-use Rattle.sections.specs.Resuming.{heard, bytesOf, answerOf, endOf, entry, placed, events, bytesTaken, answersHeard, endHeard}
+use Rattle.sections.specs.Resuming.{heard, bytesBy, answerBy, endBy, entry, placed, events, bytesTaken, answersHeard, endHeard}
 use Rattle.sections.proofs.Invariant.{Inv, at-start, inv-read}
 use Rattle.sections.proofs.Agreement.{size, Adds, nothing, bytes, reply, close, turn-agrees}
 
@@ -64,7 +64,7 @@ module _ {C Q E L : Type 0} (R : Rules C Q E L) (start : C) where
   grown-none (history taken ans told) = rw (append-nil taken, append-nil ans, or-false told)
 
   adds-grown : {h h′ : History} {k : Request} {o : Out Q E L} → Adds h k o h′
-      → h′ ≡ grown h (bytesOf (heard (o .0)) (o .1) k) (answerOf (heard (o .0)) k) (endOf (heard (o .0)) k)
+      → h′ ≡ grown h (bytesBy (heard (o .0)) (o .1) k) (answerBy (heard (o .0)) k) (endBy (heard (o .0)) k)
   adds-grown (nothing {h}) = grown-none h
   adds-grown (bytes f r {ans} x p) = rw (x, ← p, take-append-seam f r, append-nil ans)
   adds-grown (reply {taken}) = rw (append-nil taken)

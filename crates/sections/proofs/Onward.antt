@@ -9,7 +9,7 @@ use lib.Seq.{drop-append-seam}
 use Rattle.sections.specs.Reading.{Log, Rules, reading}
 use Rattle.sections.specs.Calls.{Request, Call, Out, over, History, history, readCall}
 use Rattle.sections.specs.Machine.{State, running, asked, finished, turn, runFrom}
-use Rattle.sections.specs.Resuming.{Begins, heard, continues, request, Resumes, entry, placed, answerOf, endOf, answersHeard, endHeard, Tracks}
+use Rattle.sections.specs.Resuming.{Begins, heard, continues, request, Resumes, entry, placed, answerBy, endBy, answersHeard, endHeard, Tracks}
 use Rattle.sections.proofs.States.{stands, resume}
 use Rattle.sections.proofs.Invariant.{Inv, live, ended}
 use Rattle.sections.proofs.Agreement.{size, Adds, nothing, bytes, reply, close, turn-agrees}
@@ -37,7 +37,7 @@ same-stream taken f r piece left p b =
 -- whether the end was told, and that the stream is still the same.
 abbrev Onward : {Q E L : Type 0} → List ℕ → Request → Out Q E L → History → History → Type 0
 Onward left k o (history taken ans told) (history taken′ ans′ told′) =
-    (ans ++ answerOf (heard (o .0)) k ≡ ans′) × ((told || endOf (heard (o .0)) k) ≡ told′)
+    (ans ++ answerBy (heard (o .0)) k ≡ ans′) × ((told || endBy (heard (o .0)) k) ≡ told′)
     × (taken′ ++ drop (o .1) left ≡ taken ++ left) × (Spent told left → Spent told′ (drop (o .1) left))
 
 onward : {Q E L : Type 0} (left : List ℕ) (k : Request) (o : Out Q E L) (h h′ : History)

@@ -8,7 +8,7 @@ use native.Mathlib.Nat.{zero-add, suc-add}
 use native.Mathlib.Omega.{arith}
 use lib.ListN.{length}
 use Rattle.sections.specs.Reading.{Rules}
-use Rattle.sections.specs.Calls.{feed, call, Word, more, event, misused}
+use Rattle.sections.specs.Calls.{feed, call, Reply, more, event, misused}
 use Rattle.sections.specs.Machine.{State, running, asked, finished, Step, on, decides, Turn, oneMore, follow, step, fed, respond, turn}
 use Rattle.sections.specs.Resuming.{heard}
 
@@ -16,14 +16,14 @@ use Rattle.sections.specs.Resuming.{heard}
 abbrev pub plus : {C Q E L : Type 0} → ℕ → Turn C Q E L → Turn C Q E L
 plus n m = ((m .0 .0, n + m .0 .1), m .1)
 
-abbrev pub isMore : {Q E L : Type 0} → Word Q E L → Bool
+abbrev pub isMore : {Q E L : Type 0} → Reply Q E L → Bool
 isMore more = true
 isMore (event e) = false
 isMore (misused n) = false
 
 module _ {C Q E L : Type 0} (R : Rules C Q E L) where
   -- after a part of the piece: if it gave no event, the rest q goes on from there
-  abbrev pub goesOn : Word Q E L → ℕ → State C E L → List ℕ → Turn C Q E L
+  abbrev pub goesOn : Reply Q E L → ℕ → State C E L → List ℕ → Turn C Q E L
   goesOn more n (running c g) q = plus n (fed R c g q)
   goesOn more n (asked y) q = ((more, n), asked y)
   goesOn more n finished q = ((more, n), finished)
@@ -33,7 +33,7 @@ module _ {C Q E L : Type 0} (R : Rules C Q E L) where
   abbrev pub after : Turn C Q E L → List ℕ → Turn C Q E L
   after m q = goesOn (m .0 .0) (m .0 .1) (m .1) q
 
-  goesOn-suc : (w : Word Q E L) (n : ℕ) (s : State C E L) (q : List ℕ) → goesOn w (suc n) s q ≡ oneMore (goesOn w n s q)
+  goesOn-suc : (w : Reply Q E L) (n : ℕ) (s : State C E L) (q : List ℕ) → goesOn w (suc n) s q ≡ oneMore (goesOn w n s q)
   goesOn-suc more n (running c g) q = rw suc-add
   goesOn-suc more n (asked y) q = refl
   goesOn-suc more n finished q = refl
@@ -73,7 +73,7 @@ module _ {C Q E L : Type 0} (R : Rules C Q E L) where
   pub feed-stays : (m : Turn C Q E L) (q : List ℕ) → isMore (m .0 .0) ≡ false → after m q ≡ m
   feed-stays m q = by (m .0 .0)
     where
-      by : (w : Word Q E L) → isMore w ≡ false → goesOn w (m .0 .1) (m .1) q ≡ ((w, m .0 .1), m .1)
+      by : (w : Reply Q E L) → isMore w ≡ false → goesOn w (m .0 .1) (m .1) q ≡ ((w, m .0 .1), m .1)
       by more f = absurd (false≢true (sym f))
       by (event e) f = refl
       by (misused n) f = refl

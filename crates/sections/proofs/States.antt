@@ -5,7 +5,7 @@ use mathlib.Core.List.{List, [], _∷_, _++_}
 use Prim.Native.Nat.{ℕ, suc}
 use Rattle.sections.specs.Reading.{Log, Verdict, go, tell, ask, stop, Rules, answered, judged}
 use Rattle.sections.specs.Calls.{Standing, going, asking, over, standingAt}
-use Rattle.sections.specs.Machine.{State, running, asked, finished, Step, on, decides, rule, gathered, step}
+use Rattle.sections.specs.Machine.{State, running, asked, finished, Step, on, decides, ruling, gathered, step}
 use Rattle.sections.proofs.Scans.{scan}
 
 abbrev pub stands : {C E L : Type 0} → State C E L → Standing
@@ -19,7 +19,7 @@ module _ {C Q E L : Type 0} where
   Fits (on c g) = Unit {0}
   Fits (decides e s) = standingAt e ≡ stands s
 
-  rule-fits : (v : Verdict C Q E L) → Fits (rule v)
+  rule-fits : (v : Verdict C Q E L) → Fits (ruling v)
   rule-fits (go c) = tt
   rule-fits (tell e c) = refl
   rule-fits (ask q y) = refl
@@ -52,7 +52,7 @@ module _ {C Q E L : Type 0} (R : Rules C Q E L) where
       by false t = tt
 
   judged-stepped : (v : Verdict C Q E L) (at : ℕ) (bs : List ℕ) (ans : List Bool) (told : Bool)
-      → judged R v at ans (λ c′ ans′. scan R c′ [] at bs ans′ told) ≡ stepped (rule v) at bs ans told
+      → judged R v at ans (λ c′ ans′. scan R c′ [] at bs ans′ told) ≡ stepped (ruling v) at bs ans told
   judged-stepped (go c) at bs ans told = refl
   judged-stepped (tell e c) at bs ans told = refl
   judged-stepped (ask q y) at bs ans told = refl

@@ -1,8 +1,9 @@
 -- What a list of calls means, told by the plain reading alone (paper 01, "A list of calls is read so").
 -- No reader and no state stand here: only what was taken, answered and told so far. Assumes nothing.
-use mathlib.Core.Bool.{Bool, true, false}
+use mathlib.Core.Bool.{Bool, true, false, _||_}
 use mathlib.Core.List.{List, [], _∷_, _++_}
 use Prim.Native.Nat.{ℕ}
+use lib.Dec.{eqb}
 use lib.ListN.{length, drop}
 use Rattle.sections.specs.Reading.{Event, question, message, last, Log, Rules, Cut, uncut, cutAt, cut, reading}
 
@@ -18,15 +19,19 @@ pub data Request : Type 0 where
 pub data Call : Type 0 where
   call : Bool → Request → Call
 
+-- "Refusals 1 and 2 answer a call and are no events": the number is one of these.
+abbrev pub isOfCall : ℕ → Bool
+isOfCall n = eqb n 1 || eqb n 2
+
 -- A call's word: no event yet; an event; or the call is refused, with the number 1 or 2 of paper 01's table.
-pub data Word (Q E L : Type 0) : Type 0 where
-  more : Word Q E L
-  event : Event Q E L → Word Q E L
-  misused : ℕ → Word Q E L
+pub data Reply (Q E L : Type 0) : Type 0 where
+  more : Reply Q E L
+  event : Event Q E L → Reply Q E L
+  misused : ℕ → Reply Q E L
 
 -- What a call returns: its word, and the number of bytes that it took.
 abbrev pub Out : Type 0 → Type 0 → Type 0 → Type 0
-Out Q E L = Word Q E L × ℕ
+Out Q E L = Reply Q E L × ℕ
 
 -- ---- what came so far
 
@@ -73,7 +78,7 @@ module _ {Q E L : Type 0} where
   nonempty (x ∷ log) = true
 
   -- The event gained is the call's word; with none the word is "more".
-  abbrev pub word : Log Q E L → Word Q E L
+  abbrev pub word : Log Q E L → Reply Q E L
   word [] = more
   word (x ∷ log) = event (x .1)
 

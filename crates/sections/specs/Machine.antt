@@ -24,11 +24,11 @@ Turn C Q E L = Out Q E L × State C E L
 
 module _ {C Q E L : Type 0} where
   -- a whole section's verdict
-  abbrev pub rule : Verdict C Q E L → Step C Q E L
-  rule (go c) = on c []
-  rule (tell e c) = decides (message e) (running c [])
-  rule (ask q y) = decides (question q) (asked y)
-  rule (stop l) = decides (last l) finished
+  abbrev pub ruling : Verdict C Q E L → Step C Q E L
+  ruling (go c) = on c []
+  ruling (tell e c) = decides (message e) (running c [])
+  ruling (ask q y) = decides (question q) (asked y)
+  ruling (stop l) = decides (last l) finished
 
   -- one byte more than the rest of the piece took
   abbrev pub oneMore : Turn C Q E L → Turn C Q E L
@@ -45,13 +45,13 @@ module _ {C Q E L : Type 0} where
   replied (final l) = ((event (last l), 0), finished)
 
   -- a refused call
-  abbrev pub refused : ℕ → State C E L → Turn C Q E L
-  refused number s = ((misused number, 0), s)
+  abbrev pub declined : ℕ → State C E L → Turn C Q E L
+  declined number s = ((misused number, 0), s)
 
 module _ {C Q E L : Type 0} (R : Rules C Q E L) where
   -- The bytes g are gathered: a section that is whole with them is judged.
   abbrev pub gathered : Bool → C → List ℕ → Step C Q E L
-  gathered true c g = rule (R .judge c g)
+  gathered true c g = ruling (R .judge c g)
   gathered false c g = on c g
 
   -- One byte more.
@@ -66,17 +66,17 @@ module _ {C Q E L : Type 0} (R : Rules C Q E L) where
   -- A call whose loan will do.
   unfoldable pub respond : State C E L → Request → Turn C Q E L
   respond (running c g) (feed piece) = fed c g piece
-  respond (running c g) (answer a) = refused 1 (running c g)
+  respond (running c g) (answer a) = declined 1 (running c g)
   respond (running c g) end = ((event (last (R .unfinished)), 0), finished)
-  respond (asked y) (feed piece) = refused 1 (asked y)
+  respond (asked y) (feed piece) = declined 1 (asked y)
   respond (asked y) (answer true) = replied y
   respond (asked y) (answer false) = ((event (last (R .denied)), 0), finished)
-  respond (asked y) end = refused 1 (asked y)
-  respond finished r = refused 1 finished
+  respond (asked y) end = declined 1 (asked y)
+  respond finished r = declined 1 finished
 
   -- A call: refusal 2 before all else.
   unfoldable pub turn : State C E L → Call → Turn C Q E L
-  turn s (call false r) = refused 2 s
+  turn s (call false r) = declined 2 s
   turn s (call true r) = respond s r
 
   -- One call after the other, each from the state that the one before left.

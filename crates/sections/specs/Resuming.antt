@@ -6,7 +6,7 @@ use mathlib.Core.List.{List, [], _∷_, _++_}
 use Prim.Native.Nat.{ℕ, _+_}
 use lib.ListN.{take, drop}
 use Rattle.sections.specs.Reading.{Log}
-use Rattle.sections.specs.Calls.{Request, feed, answer, end, Call, call, Word, more, event, misused, Out, over, standing}
+use Rattle.sections.specs.Calls.{Request, feed, answer, end, Call, call, Reply, more, event, misused, Out, over, standing}
 
 -- The list l is a beginning of the list m.
 pub record Begins {A : Type 0} (l m : List A) : Type 0 where
@@ -15,7 +15,7 @@ pub record Begins {A : Type 0} (l m : List A) : Type 0 where
 
 module _ {Q E L : Type 0} where
   -- The call was not refused by 1 or 2.
-  abbrev pub heard : Word Q E L → Bool
+  abbrev pub heard : Reply Q E L → Bool
   heard more = true
   heard (event e) = true
   heard (misused n) = false
@@ -29,25 +29,25 @@ continues left true (answer a) = Unit {0}
 continues left true end = left ≡ []
 
 -- The bytes that a call took, if it was heard: the first so many of its piece.
-abbrev pub bytesOf : Bool → ℕ → Request → List ℕ
-bytesOf false n r = []
-bytesOf true n (feed piece) = take n piece
-bytesOf true n (answer a) = []
-bytesOf true n end = []
+abbrev pub bytesBy : Bool → ℕ → Request → List ℕ
+bytesBy false n r = []
+bytesBy true n (feed piece) = take n piece
+bytesBy true n (answer a) = []
+bytesBy true n end = []
 
 -- The answer that a call gave, if it was heard.
-abbrev pub answerOf : Bool → Request → List Bool
-answerOf false r = []
-answerOf true (feed piece) = []
-answerOf true (answer a) = a ∷ []
-answerOf true end = []
+abbrev pub answerBy : Bool → Request → List Bool
+answerBy false r = []
+answerBy true (feed piece) = []
+answerBy true (answer a) = a ∷ []
+answerBy true end = []
 
 -- Whether it told the end, if it was heard.
-abbrev pub endOf : Bool → Request → Bool
-endOf false r = false
-endOf true (feed piece) = false
-endOf true (answer a) = false
-endOf true end = true
+abbrev pub endBy : Bool → Request → Bool
+endBy false r = false
+endBy true (feed piece) = false
+endBy true (answer a) = false
+endBy true end = true
 
 -- What a call asks for, whatever it is lent.
 abbrev pub request : Call → Request
@@ -61,7 +61,7 @@ module _ {Q E L : Type 0} where
   Resumes left (k ∷ ks) (o ∷ os) = continues left (heard (o .0)) (request k) × Resumes (drop (o .1) left) ks os
 
   -- What a word adds to the log, with so many bytes taken.
-  abbrev pub entry : ℕ → Word Q E L → Log Q E L
+  abbrev pub entry : ℕ → Reply Q E L → Log Q E L
   entry at more = []
   entry at (event e) = (at, e) ∷ []
   entry at (misused n) = []
@@ -79,19 +79,19 @@ module _ {Q E L : Type 0} where
   unfoldable pub bytesTaken : List Call → List (Out Q E L) → List ℕ
   bytesTaken [] os = []
   bytesTaken (k ∷ ks) [] = []
-  bytesTaken (k ∷ ks) (o ∷ os) = bytesOf (heard (o .0)) (o .1) (request k) ++ bytesTaken ks os
+  bytesTaken (k ∷ ks) (o ∷ os) = bytesBy (heard (o .0)) (o .1) (request k) ++ bytesTaken ks os
 
   -- The answers that were heard, in their order.
   unfoldable pub answersHeard : List Call → List (Out Q E L) → List Bool
   answersHeard [] os = []
   answersHeard (k ∷ ks) [] = []
-  answersHeard (k ∷ ks) (o ∷ os) = answerOf (heard (o .0)) (request k) ++ answersHeard ks os
+  answersHeard (k ∷ ks) (o ∷ os) = answerBy (heard (o .0)) (request k) ++ answersHeard ks os
 
   -- Whether an end was heard.
   unfoldable pub endHeard : List Call → List (Out Q E L) → Bool
   endHeard [] os = false
   endHeard (k ∷ ks) [] = false
-  endHeard (k ∷ ks) (o ∷ os) = endOf (heard (o .0)) (request k) || endHeard ks os
+  endHeard (k ∷ ks) (o ∷ os) = endBy (heard (o .0)) (request k) || endHeard ks os
 
   -- The log is a beginning of the whole reading, and all of it once a last word has come.
   pub record Tracks (log whole : Log Q E L) : Type 0 where

@@ -10,7 +10,7 @@ use Rattle.stream.specs.Bytes.{lower, lowered}
 use Rattle.stream.specs.Fields.{valueOf}
 use Rattle.stream.specs.Lines.{Field}
 use Rattle.stream.specs.Signatures.{listedFields, responseStatusName, createdName}
-use Rattle.stream.specs.Signing.{signedFields, signingLine, joined}
+use Rattle.stream.specs.Signing.{signedFields, signingLine, signingText}
 use Rattle.places.specs.Writing.{placed, wrote}
 use Rattle.places.proofs.WritingLaws.{wrote-more, wrote-nil}
 use Rattle.signing.specs.Writing.{lineOf, following, stringOf}
@@ -27,8 +27,8 @@ line-is name value = refl
 
 -- ---- all lines
 
-joined-is : (f : Field) (fs : List Field) → joined (f ∷ fs) ≡ signingLine f ++ following fs
-unfolding joined following
+joined-is : (f : Field) (fs : List Field) → signingText (f ∷ fs) ≡ signingLine f ++ following fs
+unfolding signingText following
 joined-is f [] = sym (append-nil (signingLine f))
 joined-is f (g ∷ fs) = ap (λ (l : List ℕ). signingLine f ++ 10 ∷ l) (joined-is g fs)
 

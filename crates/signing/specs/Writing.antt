@@ -7,7 +7,7 @@ use Rattle.names.specs.NameList.{namesIn}
 use Rattle.names.specs.declared.reading.Names.{Names}
 use Rattle.stream.specs.Lines.{Field}
 use Rattle.stream.specs.Signatures.{listedFields, responseStatusName, createdName}
-use Rattle.stream.specs.Signing.{signedFields, signingLine, joined}
+use Rattle.stream.specs.Signing.{signedFields, signingLine, signingText}
 
 abbrev pub lineOf : List ℕ → List ℕ → List ℕ
 lineOf name value = signingLine (record { name = name; value = value })
@@ -20,7 +20,7 @@ following (f ∷ fs) = 10 ∷ (signingLine f ++ following fs)
 -- by the fields of a head, its listed names, the digits of its status and those of `created`
 unfoldable pub stringOf : List Field → List (List ℕ) → List ℕ → List ℕ → List ℕ
 stringOf fs ns digits seconds =
-    joined
+    signingText
     (record { name = responseStatusName; value = digits }
     ∷ record { name = createdName; value = seconds }
     ∷ signedFields fs (listedFields ns))

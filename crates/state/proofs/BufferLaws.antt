@@ -5,7 +5,7 @@ use native.Mathlib.Nat.{zero-min, min-zero, suc-min-suc}
 use native.Mathlib.Omega.{arith}
 use Prim.Native.Nat.{ℕ, zero, suc, min}
 use lib.ListN.{length, drop, take, replicate, length-append, length-replicate, length-drop}
-use Rattle.state.specs.Desk.{cleared}
+use Rattle.state.specs.Configuration.{cleared}
 
 -- a count past the end is the length
 pub take-min : (n : ℕ) (l : List ℕ) → take (min n (length l)) l ≡ take n l

@@ -1,6 +1,6 @@
 // Bytes cleared in a lent buffer.
 ghost use mathlib.Core.Path.{_≡_};
-ghost use Rattle.state.specs.Desk.{cleared};
+ghost use Rattle.state.specs.Configuration.{cleared};
 
 // The first `count` bytes set to zero, or all where there are fewer.
 pub(crate) fn clear(block: &mut [u8], count: usize)

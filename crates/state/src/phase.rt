@@ -1,6 +1,6 @@
 // Where the reader stands in the stream, with the counts that this takes.
 ghost use mathlib.Core.Path.{_≡_};
-ghost use Rattle.state.specs.Desk.{pending as pendingIn};
+ghost use Rattle.state.specs.Configuration.{pending as pendingIn};
 
 // Where the reader stands in the stream. Counts are of bytes gathered; `size` is the size of the block under way.
 pub enum Phase {

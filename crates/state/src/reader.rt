@@ -3,7 +3,7 @@
 use crate::phase::Phase;
 use blocks::BlockNumber;
 ghost use mathlib.Core.Path.{_≡_};
-ghost use Rattle.state.specs.Desk.{freshReader, renewed as renewedReader, inPhase, withLine, withHash};
+ghost use Rattle.state.specs.Configuration.{freshReader, renewed as renewedReader, inPhase, withLine, withHash};
 
 // What the head fixes for the rest of the stream.
 pub struct Fixed {

@@ -7,7 +7,7 @@ use crate::word::Word;
 ghost use mathlib.Core.List.{List};
 ghost use mathlib.Core.Path.{_≡_};
 ghost use Prim.Native.Nat.{ℕ};
-ghost use Rattle.state.specs.Desk.{desk, nextOf, saying, refuse};
+ghost use Rattle.state.specs.Configuration.{configuration, nextOf, saying, refuse};
 
 // What a byte leads to: the word, the signature that a question is about (else zeros), and the reader after it. With the
 // word More the reader goes on to the next byte.
@@ -30,7 +30,7 @@ pub fn said(word: Word, r: Reader) -> Stepped
 
 // A final refusal: the first `count` bytes of the block buffer, those that are pending, are set to zero.
 pub fn refused(r: Reader, block: &mut [u8], count: usize, number: u8) -> Stepped
-    ensures { λ s. ⌜ ((h q : List ℕ) → nextOf s h (now (block .exit)) q ≡ refuse number count (desk r h (now (block .entry)) q)) ⌝ }
+    ensures { λ s. ⌜ ((h q : List ℕ) → nextOf s h (now (block .exit)) q ≡ refuse number count (configuration r h (now (block .entry)) q)) ⌝ }
 {
     clear(block, count);
     said(Word::Refused(number), in_phase(r, Phase::Refused(number)))

@@ -1,7 +1,7 @@
 // The words of the reader.
 use blocks::ByteOffset;
 ghost use mathlib.Core.Path.{_≡_};
-ghost use Rattle.state.specs.Desk.{goesOn};
+ghost use Rattle.state.specs.Configuration.{goesOn};
 
 // What a call says. Closed and Refused are final, but for the refusals 1 and 2, which answer a call and change nothing.
 pub enum Word {

@@ -16,7 +16,7 @@ use Rattle.stream.specs.Limits.{headLimit}
 use Rattle.stream.specs.Lines.{Field, areFieldLines, statusScan, isStatusLine, statusOf}
 use Rattle.stream.specs.Ring.{Ring}
 use Rattle.stream.specs.Signatures.{sig0Scan, isSig0, listedFields, areFields, isNameList, responseStatusName, createdName, sig0Name}
-use Rattle.stream.specs.Signing.{signingLine, joined}
+use Rattle.stream.specs.Signing.{signingLine, signingText}
 use Rattle.stream.specs.Template.{isLike, kept}
 use Rattle.stream.proofs.LineSizes.{fieldSize, field-lines-size, fields-size}
 use Rattle.stream.proofs.NameSizes.{names-size, value-size, signed-size}
@@ -30,11 +30,11 @@ line-size : (f : Field) → length (signingLine f) + 1 ≡ fieldSize f
 unfolding signingLine
 line-size f = omega (arith, length-append (lowered (f .name)) (octets ": " ++ f .value), lowered-length (f .name))
 
-pub joined-size : (fs : List Field) → length (joined fs) ≤ total fieldSize fs
-unfolding joined
+pub joined-size : (fs : List Field) → length (signingText fs) ≤ total fieldSize fs
+unfolding signingText
 joined-size [] = omega arith
 joined-size (f ∷ []) = omega (arith, line-size f)
-joined-size (f ∷ g ∷ fs) = omega (arith, length-append (signingLine f) (10 ∷ joined (g ∷ fs)), line-size f, joined-size (g ∷ fs))
+joined-size (f ∷ g ∷ fs) = omega (arith, length-append (signingLine f) (10 ∷ signingText (g ∷ fs)), line-size f, joined-size (g ∷ fs))
 
 -- ---- what the rules say
 

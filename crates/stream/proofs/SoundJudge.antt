@@ -8,7 +8,7 @@ use native.Mathlib.Nat.{suc-mul, zero-mul}
 use lib.Dec.{eqb, leb}
 use lib.ListN.{length}
 use borrow.Author.Tests.{leb-true, eqb-true}
-use Rattle.base64.specs.Base64.{isText as isBase64}
+use Rattle.base64.specs.Base64.{isBase64}
 use Rattle.sections.specs.Reading.{Verdict, go, tell, ask, stop, Grant, granted, final}
 use Rattle.stream.specs.Blocks.{isChunkLine, carriesSignature, chunkSize, lineRules, lineFault, sameBool}
 use Rattle.stream.specs.Bytes.{between, same}

@@ -5,7 +5,7 @@ use Prim.Native.Nat.{ℕ, _+_, _-_, _*_}
 use lib.Dec.{eqb, leb}
 use lib.ListN.{length, drop, take}
 use Rattle.octets.specs.Octets.{octets}
-use Rattle.base64.specs.Base64.{isText as isBase64, bytesOf}
+use Rattle.base64.specs.Base64.{isBase64, base64Bytes}
 use Rattle.hash.specs.Sha512.{sha512}
 use Rattle.stream.specs.Bytes.{isHex}
 use Rattle.stream.specs.Limits.{lineLimit, sizeDigits, bodyLimit}
@@ -51,7 +51,7 @@ unfoldable pub chunkSize : List ℕ → ℕ
 chunkSize l = hexValue (sizeText l)
 
 unfoldable pub lineSignature : List ℕ → List ℕ
-lineSignature l = bytesOf 64 (signatureText l)
+lineSignature l = base64Bytes 64 (signatureText l)
 
 -- ---- the block rule
 

@@ -7,7 +7,7 @@ use Prim.Native.Nat.{ℕ}
 use lib.Dec.{leb}
 use lib.ListN.{length, drop}
 use Rattle.octets.specs.Octets.{octets}
-use Rattle.base64.specs.Base64.{bytesOf}
+use Rattle.base64.specs.Base64.{base64Bytes}
 use Rattle.stream.specs.Bytes.{same, sameName}
 use Rattle.stream.specs.Fields.{isDoubled, namesOf, hasField, valueOf}
 use Rattle.stream.specs.Limits.{headLimit, fieldLimit}
@@ -16,7 +16,7 @@ use Rattle.stream.specs.Numbers.{decimalValue}
 use Rattle.stream.specs.Ring.{Ring, found, isFound}
 use Rattle.stream.specs.Rule.{Rule, rule, firstBroken}
 use Rattle.stream.specs.Signatures.{injectionScan, idText, timeText, isInjection, bsigsScan, keyText, blockSizeText, isBsigs, sig0Scan, createdText, namesText, headSignatureText, isSig0, splitNames, listedFields, isNameList, responseStatusName, createdName, versionName, uriName, injectionName, bsigsName, sig0Name}
-use Rattle.stream.specs.Signing.{signedFields, joined}
+use Rattle.stream.specs.Signing.{signedFields, signingText}
 use Rattle.stream.specs.Template.{Scanned, nth}
 
 -- "at the first CR LF CR LF, or refused with 3 when 8,192 bytes have come without it"
@@ -69,16 +69,16 @@ unfoldable pub blockSize : Head → ℕ
 blockSize h = decimalValue (blockSizeText (h .bsigs))
 
 unfoldable pub blockKey : Head → List ℕ
-blockKey h = bytesOf 32 (keyText (h .bsigs))
+blockKey h = base64Bytes 32 (keyText (h .bsigs))
 
 unfoldable pub headKey : Head → List ℕ
-headKey h = bytesOf 32 (keyText (h .sig0))
+headKey h = base64Bytes 32 (keyText (h .sig0))
 
 unfoldable pub listedNames : Head → List (List ℕ)
 listedNames h = splitNames (namesText (h .sig0))
 
 unfoldable pub headSignature : Head → List ℕ
-headSignature h = bytesOf 64 (headSignatureText (h .sig0))
+headSignature h = base64Bytes 64 (headSignatureText (h .sig0))
 
 -- the fields whose values are handed out: "for fields in the signed list only"
 unfoldable pub signedOf : Head → List Field
@@ -87,7 +87,7 @@ signedOf h = signedFields (h .fields) (listedFields (listedNames h))
 -- "`(response-status)` is the three digits, `(created)` the digits as given"
 unfoldable pub signingString : Head → List ℕ
 signingString h =
-    joined
+    signingText
     (record { name = responseStatusName; value = statusDigits h }
     ∷ record { name = createdName; value = createdText (h .sig0) }
     ∷ signedOf h)

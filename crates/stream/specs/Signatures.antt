@@ -5,7 +5,7 @@ use Prim.Native.Nat.{ℕ}
 use lib.Dec.{eqb, leb}
 use lib.ListN.{length, drop}
 use Rattle.octets.specs.Octets.{octets}
-use Rattle.base64.specs.Base64.{isText as isBase64}
+use Rattle.base64.specs.Base64.{isBase64}
 use Rattle.stream.specs.Bytes.{between, isDigit, isIdByte, isQuoted, sameName}
 use Rattle.stream.specs.Fields.{among, isDoubled, hasField}
 use Rattle.stream.specs.Limits.{idLimit, timeDigits, blockLimit, blockDigits, nameLimit}

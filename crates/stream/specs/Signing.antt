@@ -16,7 +16,7 @@ unfoldable pub signingLine : Field → List ℕ
 signingLine f = lowered (f .name) ++ (octets ": " ++ f .value)
 
 -- "a line feed between, none after the last"
-unfoldable pub joined : List Field → List ℕ
-joined [] = []
-joined (f ∷ []) = signingLine f
-joined (f ∷ g ∷ fs) = signingLine f ++ 10 ∷ joined (g ∷ fs)
+unfoldable pub signingText : List Field → List ℕ
+signingText [] = []
+signingText (f ∷ []) = signingLine f
+signingText (f ∷ g ∷ fs) = signingLine f ++ 10 ∷ signingText (g ∷ fs)

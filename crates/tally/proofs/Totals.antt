@@ -6,12 +6,13 @@ use mathlib.Core.List.{List, [], _∷_, _++_}
 use Prim.Native.Nat.{ℕ, _+_, min}
 use native.Mathlib.Omega.{arith}
 use Rattle.octets.specs.Choice.{pick}
+use Rattle.sections.specs.Calls.{isOfCall}
 use Rattle.sections.specs.Reading.{Event, question, message, last, Log}
 use Rattle.stream.specs.Events.{Question, Release, headAccepted, block, LastWord, closed, refused}
 use Rattle.state.specs.declared.word.Word.{Word}
 use Rattle.state.specs.declared.word.Word.the-variants as W
 use Rattle.tally.specs.declared.Tally.{Tally}
-use Rattle.tally.specs.Counting.{largest, grown, noCounts, withRefused, isOfCall, refusedBy, talliedAfter, tallied}
+use Rattle.tally.specs.Counting.{largest, grown, noCounts, withRefused, refusedBy, talliedAfter, tallied}
 use Rattle.tally.specs.Counts.{Counts, counts, nothing, together, shown, refusalCounts, eventCounts, countsOf, wordCounts, wordsCount, wordOf, wordsOf}
 
 -- ---- counts, field by field

@@ -1,9 +1,8 @@
 -- The day tally (paper 01, "The kit's log"): how each event changes it, and what it is after many. Assumes nothing.
-use mathlib.Core.Bool.{Bool, _||_}
 use mathlib.Core.List.{List, [], _∷_}
 use Prim.Native.Nat.{ℕ, _+_, min}
-use lib.Dec.{eqb}
 use Rattle.octets.specs.Choice.{pick}
+use Rattle.sections.specs.Calls.{isOfCall}
 use Rattle.state.specs.declared.word.Word.{Word}
 use Rattle.state.specs.declared.word.Word.the-variants as W
 use Rattle.tally.specs.declared.Tally.{Tally}
@@ -28,10 +27,6 @@ withClosed t = record { blocks = t .blocks; bytes = t .bytes; closed = grown (t 
 
 abbrev pub withRefused : Tally → Tally
 withRefused t = record { blocks = t .blocks; bytes = t .bytes; closed = t .closed; refused = grown (t .refused) 1 }
-
--- "Refusals 1 and 2 answer a call and are no events"
-abbrev pub isOfCall : ℕ → Bool
-isOfCall n = eqb n 1 || eqb n 2
 
 abbrev pub refusedBy : Tally → ℕ → Tally
 refusedBy t n = pick (isOfCall n) t (withRefused t)

@@ -3,11 +3,12 @@ use mathlib.Core.List.{List, [], _∷_}
 use Prim.Native.Nat.{ℕ, _+_, min}
 use lib.ListN.{length}
 use Rattle.octets.specs.Choice.{pick}
+use Rattle.sections.specs.Calls.{isOfCall}
 use Rattle.sections.specs.Reading.{Event, question, message, last, Log}
 use Rattle.stream.specs.Events.{Question, Release, headAccepted, block, LastWord, closed, refused}
 use Rattle.state.specs.declared.word.Word.{Word}
 use Rattle.state.specs.declared.word.Word.the-variants as W
-use Rattle.tally.specs.Counting.{largest, isOfCall}
+use Rattle.tally.specs.Counting.{largest}
 use Rattle.tally.specs.declared.Tally.{Tally}
 
 -- "blocks, bytes released, streams closed, streams finally refused"

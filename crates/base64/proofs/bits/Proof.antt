@@ -1,6 +1,6 @@
 -- `base64::bits` meets its contract, by what `value` ensures of each character. Assumes nothing.
 use borrow.Author.Needs.{needs}
-use Rattle.base64.specs.Base64.{joined}
+use Rattle.base64.specs.Base64.{joinedLetters}
 use Rattle.base64.proofs.bits.Statement.{statement}
 use Rattle.base64.proofs.bits.Tie as tie
 
@@ -35,7 +35,7 @@ add-result-3 : tie.Need-add-result-3
 add-result-3 c = search needs
 
 returns : tie.Need-returns
-unfolding joined
+unfolding joinedLetters
 returns c = cc
 
 pub bits-spec : {M : Type 1} → statement M

@@ -7,20 +7,20 @@ use Prim.Native.Nat.{ℕ, _+_, _-_, _*_, _/_, _%_}
 use native.Mathlib.Omega.{arith}
 use denote.Ref.{now}
 use lib.ListN.{length, take, drop}
-use Rattle.base64.specs.Base64.{bytesOf}
+use Rattle.base64.specs.Base64.{base64Bytes}
 use Rattle.base64.proofs.Groups.{turn, turn-length, turns-end}
 use Rattle.base64.proofs.fill.Statement.{statement}
 use Rattle.base64.proofs.fill.Tie as tie
 
 abbrev Inv-loop : tie.InvT-loop
 Inv-loop text out₀ o₀ i₀ out o i =
-    (take o out ++ bytesOf (length out₀ - o) (drop i text) ≡ bytesOf (length out₀) text) × (length out ≡ length out₀) × (o % 3 ≡ 0) × (i ≡ o / 3 * 4)
+    (take o out ++ base64Bytes (length out₀ - o) (drop i text) ≡ base64Bytes (length out₀) text) × (length out ≡ length out₀) × (o % 3 ≡ 0) × (i ≡ o / 3 * 4)
 
 abbrev μ-loop : tie.MeasureT-loop
 μ-loop text out₀ o₀ i₀ out o i = length out - o
 
 loop-holds : tie.Need-loop-holds Inv-loop μ-loop
-loop-holds c = (ap (λ (n : ℕ). bytesOf n (now (c .before .before .args .text))) (omega arith), refl, refl, refl)
+loop-holds c = (ap (λ (n : ℕ). base64Bytes n (now (c .before .before .args .text))) (omega arith), refl, refl, refl)
 
 shared-slice-read-bits : tie.Need-shared-slice-read-bits Inv-loop μ-loop
 shared-slice-read-bits c = omega arith

@@ -8,13 +8,13 @@ use Prim.Native.Nat.{_-_, _≤_}
 use native.Mathlib.Omega.{arith}
 use denote.Ref.{now}
 use lib.ListN.{length, drop}
-use Rattle.base64.specs.Base64.{isText}
+use Rattle.base64.specs.Base64.{isBase64}
 use Rattle.base64.proofs.Texts.{rest-is, group-short, group-at}
 use Rattle.base64.proofs.is_text.Statement.{statement}
 use Rattle.base64.proofs.is_text.Tie as tie
 
 abbrev Inv-loop : tie.InvT-loop
-Inv-loop text n left₀ i₀ left i = (isText n text ≡ isText left (drop i text)) × (i ≤ length text)
+Inv-loop text n left₀ i₀ left i = (isBase64 n text ≡ isBase64 left (drop i text)) × (i ≤ length text)
 
 abbrev μ-loop : tie.MeasureT-loop
 μ-loop text n left₀ i₀ left i = left

@@ -5,7 +5,7 @@ use mathlib.Core.List.{List, []}
 use Prim.Native.Nat.{ℕ}
 use borrow.Author.Needs.{needs}
 use borrow.Author.Tests.{not-true, not-false}
-use Rattle.base64.specs.Base64.{isText, bytesOf}
+use Rattle.base64.specs.Base64.{isBase64, base64Bytes}
 use Rattle.base64.proofs.Laws.{answer-is, buffer-read}
 use Rattle.ring.specs.Keys.{ringWith}
 use Rattle.stream.specs.Ring.{Ring}
@@ -14,11 +14,11 @@ use Rattle.head_export.proofs.one_key.Statement.{statement}
 use Rattle.head_export.proofs.one_key.Tie as tie
 
 module _ (t : List ℕ) (first last : ℕ) where
-  no-key : isText 32 t ≡ false → [] ≡ oneKey t first last
+  no-key : isBase64 32 t ≡ false → [] ≡ oneKey t first last
   unfolding oneKey
   no-key h = rw h refl
 
-  a-key : (ring : Ring) (key : List ℕ) → ring ≡ [] → isText 32 t ≡ true → key ≡ bytesOf 32 t → ringWith ring (record { key = key; first = first; last = last }) ≡ oneKey t first last
+  a-key : (ring : Ring) (key : List ℕ) → ring ≡ [] → isBase64 32 t ≡ true → key ≡ base64Bytes 32 t → ringWith ring (record { key = key; first = first; last = last }) ≡ oneKey t first last
   unfolding oneKey ringWith
   a-key ring key e h k = rw (e, h, k) refl
 

@@ -1,5 +1,5 @@
 -- Each arm is one case of the definition. Assumes nothing.
-use Rattle.state.specs.Desk.{refuse}
+use Rattle.state.specs.Configuration.{refuse}
 use Rattle.state.proofs.BufferLaws.{cleared-none}
 use Rattle.head_steps.specs.HeadByte.{headAnswered}
 use Rattle.head_steps.proofs.HeadLaws.{answered-at}

@@ -3,7 +3,7 @@ use borrow.Author.Tests.{le-leb, lt-leb}
 use mathlib.Core.Path.{sym}
 use native.Mathlib.Omega.{arith}
 use lib.ListN.{length-set}
-use Rattle.state.specs.Desk.{refuse}
+use Rattle.state.specs.Configuration.{refuse}
 use Rattle.state.proofs.BufferLaws.{cleared-none}
 use Rattle.head_steps.specs.HeadByte.{pushHead}
 use borrow.Author.Needs.{needs}

@@ -43,11 +43,11 @@ use Rattle.ring.specs.declared.KeyRing.{KeyRing}
 use Rattle.ring.proofs.KeyRecord as K
 use Rattle.ring.proofs.KeyRing as R
 use Rattle.ring.proofs.KeyRing.Laws as R′
-use Rattle.state.specs.Desk.{Desk, desk}
+use Rattle.state.specs.Configuration.{Configuration, configuration}
 use Rattle.state.specs.declared.reader.Reader.{Reader}
 use Rattle.state.proofs.reader.Reader as S
 use Rattle.state.proofs.reader.Reader.Laws as S′
-use Rattle.calls.specs.Call.{Call, made}
+use Rattle.calls.specs.Response.{Response, made}
 use Rattle.reader.specs.Feed.{feedOf}
 use Rattle.calls.specs.declared.outcome.Outcome.{Outcome}
 use Rattle.calls.proofs.outcome.Outcome as O
@@ -118,8 +118,8 @@ module _ {M : Type 1} (𝓤 : URA M) (H : Heap 𝓤) (A : Atoms 𝓤) (W : Given
   Post = walkOf 𝓤 H A feed.ended stayed (feed.clauses 𝓤 H A mem run) .post ((κs, qs, tt, a, vals), tt)
 
   -- the reader at its buffers
-  abbrev d : Desk
-  d = desk r (h .xs) (b .xs) (q .xs)
+  abbrev d : Configuration
+  d = configuration r (h .xs) (b .xs) (q .xs)
 
   -- what each slice owns
   abbrev OwnH : Fml

@@ -1,6 +1,6 @@
 -- Each return is one case of the definition. Assumes nothing.
 use borrow.Author.Tests.{not-false, not-true}
-use Rattle.state.specs.Desk.{refuse}
+use Rattle.state.specs.Configuration.{refuse}
 use Rattle.state.proofs.BufferLaws.{cleared-none}
 use Rattle.calls.specs.Answer.{headAnswer}
 use borrow.Author.Needs.{needs}

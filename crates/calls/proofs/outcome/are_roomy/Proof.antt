@@ -1,6 +1,6 @@
 -- The test is the definition, part by part. Assumes nothing.
 use mathlib.Core.Path.{refl}
-use Rattle.calls.specs.Call.{areRoomy}
+use Rattle.calls.specs.Response.{areRoomy}
 use Rattle.calls.proofs.outcome.are_roomy.Statement.{statement}
 use Rattle.calls.proofs.outcome.are_roomy.Tie as tie
 

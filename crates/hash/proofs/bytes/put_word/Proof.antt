@@ -6,13 +6,13 @@ use borrow.Author.Needs.{needs}
 use denote.Ref.{now}
 use lib.ListN.{length, length-set}
 use lib.Seq.{paste, paste-zero}
-use Rattle.hash.specs.Sha2.{bytesOf}
+use Rattle.hash.specs.Sha2.{bigEndian}
 use Rattle.hash.proofs.ByteLaws.{long-bytes, copy-turn, copy-end}
 use Rattle.hash.proofs.bytes.put_word.Statement.{statement}
 use Rattle.hash.proofs.bytes.put_word.Tie as tie
 
 abbrev Inv-loop : tie.InvT-loop
-Inv-loop out₀ at x i₀ out i = (out ≡ paste out₀ at (bytesOf 8 x) i) × (i ≤ 8) × (at + 8 ≤ length out₀) × (length out ≡ length out₀)
+Inv-loop out₀ at x i₀ out i = (out ≡ paste out₀ at (bigEndian 8 x) i) × (i ≤ 8) × (at + 8 ≤ length out₀) × (length out ≡ length out₀)
 
 abbrev μ-loop : tie.MeasureT-loop
 μ-loop out₀ at x i₀ out i = 8 - i
@@ -20,7 +20,7 @@ abbrev μ-loop : tie.MeasureT-loop
 loop-holds : tie.Need-loop-holds Inv-loop μ-loop
 loop-holds c =
     let a = c .before .args in
-    (paste-zero (now (a .out)) (a .at) (bytesOf 8 (a .x)), omega arith, c .before .pre, refl)
+    (paste-zero (now (a .out)) (a .at) (bigEndian 8 (a .x)), omega arith, c .before .pre, refl)
 
 byte-of-requires : tie.Need-byte-of-requires Inv-loop μ-loop
 byte-of-requires c κs = search needs
@@ -41,7 +41,7 @@ loop-again : tie.Need-loop-again Inv-loop μ-loop
 loop-again c =
     let a = c .before .before in
     let x = a .before .before .args .x in (
-      copy-turn _ (a .loop .out) (bytesOf 8 x) _ (a .loop .i) _ (a .loop .inv .0) (omega arith) (omega (arith, long-bytes 8 x)) (c .byte-of .ensures),
+      copy-turn _ (a .loop .out) (bigEndian 8 x) _ (a .loop .i) _ (a .loop .inv .0) (omega arith) (omega (arith, long-bytes 8 x)) (c .byte-of .ensures),
       omega arith,
       a .loop .inv .2,
       simp length-set (a .loop .inv .3),
@@ -54,7 +54,7 @@ returns : tie.Need-returns Inv-loop μ-loop
 returns c =
     let a = c .before in
     let r = a .before .before .args in
-    copy-end (now (r .out)) (a .loop .out) (bytesOf 8 (r .x)) (r .at) (a .loop .i) (a .loop .inv .0) (omega (arith, long-bytes 8 (r .x)))
+    copy-end (now (r .out)) (a .loop .out) (bigEndian 8 (r .x)) (r .at) (a .loop .i) (a .loop .inv .0) (omega (arith, long-bytes 8 (r .x)))
 
 pub put-word-spec : {M : Type 1} → statement M
 put-word-spec =

@@ -1,6 +1,6 @@
 -- Each arm is one case of the definition. Assumes nothing.
 use borrow.Author.Needs.{needs}
-use Rattle.state.specs.Desk.{refuse}
+use Rattle.state.specs.Configuration.{refuse}
 use Rattle.line_steps.specs.FirstLine.{firstAnswered}
 use Rattle.state.proofs.BufferLaws.{cleared-none}
 use Rattle.line_steps.proofs.LineLaws.{first-at}

@@ -1,7 +1,7 @@
 -- The byte is stored in the line, and what is gathered is judged. Assumes nothing.
 use borrow.Author.Needs.{needs}
 use borrow.Author.Tests.{le-leb, lt-leb}
-use Rattle.state.specs.Desk.{refuse}
+use Rattle.state.specs.Configuration.{refuse}
 use Rattle.line_steps.specs.FirstLine.{pushFirstLine}
 use Rattle.state.proofs.BufferLaws.{cleared-none}
 use Rattle.line_steps.proofs.first_line.push_first_line.Statement.{statement}

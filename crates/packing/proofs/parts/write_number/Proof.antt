@@ -7,13 +7,13 @@ use denote.Ref.{now}
 use borrow.Author.Needs.{needs}
 use lib.ListN.{length, length-set}
 use lib.Seq.{sets}
-use Rattle.packing.specs.Parts.{bytesOf}
+use Rattle.packing.specs.Parts.{littleEndian}
 use Rattle.packing.proofs.PartLaws.{number-turn, number-end}
 use Rattle.packing.proofs.parts.write_number.Statement.{statement}
 use Rattle.packing.proofs.parts.write_number.Tie as tie
 
 abbrev Inv-loop : tie.InvT-loop
-Inv-loop to₀ at n end rest₀ i₀ to rest i = (sets to₀ at (bytesOf 8 n) ≡ sets to (at + i) (bytesOf (8 - i) rest)) × (i ≤ end) × (end ≡ min 8 (length to₀ - at)) × (length to ≡ length to₀)
+Inv-loop to₀ at n end rest₀ i₀ to rest i = (sets to₀ at (littleEndian 8 n) ≡ sets to (at + i) (littleEndian (8 - i) rest)) × (i ≤ end) × (end ≡ min 8 (length to₀ - at)) × (length to ≡ length to₀)
 
 abbrev μ-loop : tie.MeasureT-loop
 μ-loop to₀ at n end rest₀ i₀ to rest i = end - i

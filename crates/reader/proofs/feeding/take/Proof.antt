@@ -10,7 +10,7 @@ use native.Mathlib.Omega.{arith}
 use Prim.Native.Nat.{ℕ, _+_, _-_, _≤_}
 use lib.ListN.{length, drop}
 use Rattle.ring.specs.Keys.{ringOf}
-use Rattle.state.specs.Desk.{desk, goesOn}
+use Rattle.state.specs.Configuration.{configuration, goesOn}
 use Rattle.state.specs.Run.{Fed, event, runOf}
 use Rattle.reader.specs.Feed.{pushByte, fed, takenFrom}
 use Rattle.reader.proofs.FeedLaws.{run-done, run-on, run-stop, skip-within, skip-same}
@@ -19,7 +19,7 @@ use Rattle.reader.proofs.feeding.take.Tie as tie
 
 abbrev Inv-loop : tie.InvT-loop
 Inv-loop head₀ block₀ question₀ ring piece state₀ taken₀ head block question state taken =
-    (taken ≤ length piece) × (length head ≡ length head₀) × (length block ≡ length block₀) × (length question ≡ length question₀) × (runOf (pushByte (ringOf ring)) (desk state₀ head₀ block₀ question₀) 0 piece ≡ runOf (pushByte (ringOf ring)) (desk state head block question) taken (drop taken piece))
+    (taken ≤ length piece) × (length head ≡ length head₀) × (length block ≡ length block₀) × (length question ≡ length question₀) × (runOf (pushByte (ringOf ring)) (configuration state₀ head₀ block₀ question₀) 0 piece ≡ runOf (pushByte (ringOf ring)) (configuration state head block question) taken (drop taken piece))
 
 abbrev μ-loop : tie.MeasureT-loop
 μ-loop head₀ block₀ question₀ ring piece state₀ taken₀ head block question state taken = length piece - taken
@@ -39,9 +39,9 @@ within : (c : At-skip) → c .before .before .before .before .loop .taken + c .s
 within c = skip-within (ringOf (A c .args .ring)) (piece c) (c .before .before .before .before .loop .taken) (c .before .before .before .before .loop .state) (c .before .before .before .before .loop .block) (c .skip .result) _ (c .skip .ensures) (c .before .before .before .before .loop .inv .0)
 
 abbrev started : (c : At-skip) → Fed
-started c = runOf (pushByte (ringOf (A c .args .ring))) (desk (A c .args .r) (now (A c .args .head)) (now (A c .args .block)) (now (A c .args .question))) 0 (piece c)
+started c = runOf (pushByte (ringOf (A c .args .ring))) (configuration (A c .args .r) (now (A c .args .head)) (now (A c .args .block)) (now (A c .args .question))) 0 (piece c)
 
-skipped : (c : At-skip) → started c ≡ runOf (pushByte (ringOf (A c .args .ring))) (desk (c .skip .result .reader) (c .before .before .before .before .loop .head) (c .skip .last .1 .0) (c .before .before .before .before .loop .question)) (c .before .before .before .before .loop .taken + c .skip .result .taken) (drop (c .before .before .before .before .loop .taken + c .skip .result .taken) (piece c))
+skipped : (c : At-skip) → started c ≡ runOf (pushByte (ringOf (A c .args .ring))) (configuration (c .skip .result .reader) (c .before .before .before .before .loop .head) (c .skip .last .1 .0) (c .before .before .before .before .loop .question)) (c .before .before .before .before .loop .taken + c .skip .result .taken) (drop (c .before .before .before .before .loop .taken + c .skip .result .taken) (piece c))
 skipped c = c .before .before .before .before .loop .inv .4 ∙ skip-same (ringOf (A c .args .ring)) (piece c) (c .before .before .before .before .loop .taken) (c .before .before .before .before .loop .state) (c .before .before .before .before .loop .block) (c .skip .result) _ (c .skip .ensures) (c .before .before .before .before .loop .head) (c .before .before .before .before .loop .question)
 
 -- ---- the byte after it
@@ -64,10 +64,10 @@ block-long c = c .push .kept .1 .1 .0 ∙ K c .skip .kept .1 .0 ∙ K c .before 
 question-long : (c : At-push) → length (c .push .last .1 .1 .1 .0) ≡ length (now (A (K c) .args .question))
 question-long c = c .push .kept .1 .1 .1 .0 ∙ K c .before .before .before .before .loop .inv .3
 
-pushed-on : (c : At-push) → goesOn (c .push .result .word) ≡ true → started (K c) ≡ runOf (pushByte (ringOf (A (K c) .args .ring))) (desk (c .push .result .reader) (c .push .last .1 .0) (c .push .last .1 .1 .0) (c .push .last .1 .1 .1 .0)) (taken c + 1) (drop (taken c + 1) (piece (K c)))
+pushed-on : (c : At-push) → goesOn (c .push .result .word) ≡ true → started (K c) ≡ runOf (pushByte (ringOf (A (K c) .args .ring))) (configuration (c .push .result .reader) (c .push .last .1 .0) (c .push .last .1 .1 .0) (c .push .last .1 .1 .1 .0)) (taken c + 1) (drop (taken c + 1) (piece (K c)))
 pushed-on c g = skipped (K c) ∙ run-on (ringOf (A (K c) .args .ring)) (piece (K c)) (taken c) _ (c .push .result) _ _ _ (c .before .before .before .before .before .if1 .left) (c .push .ensures) g
 
-pushed-stop : (c : At-push) → goesOn (c .push .result .word) ≡ false → started (K c) ≡ event (c .push .result .word) (c .push .result .signature) (taken c + 1) (desk (c .push .result .reader) (c .push .last .1 .0) (c .push .last .1 .1 .0) (c .push .last .1 .1 .1 .0))
+pushed-stop : (c : At-push) → goesOn (c .push .result .word) ≡ false → started (K c) ≡ event (c .push .result .word) (c .push .result .signature) (taken c + 1) (configuration (c .push .result .reader) (c .push .last .1 .0) (c .push .last .1 .1 .0) (c .push .last .1 .1 .1 .0))
 pushed-stop c g = skipped (K c) ∙ run-stop (ringOf (A (K c) .args .ring)) (piece (K c)) (taken c) _ (c .push .result) _ _ _ (c .before .before .before .before .before .if1 .left) (c .push .ensures) g
 
 loop-holds : tie.Need-loop-holds Inv-loop μ-loop

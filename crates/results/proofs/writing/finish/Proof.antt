@@ -5,7 +5,7 @@ use Prim.Native.Nat.{ℕ}
 use borrow.Author.Needs.{needs}
 use Rattle.results.specs.Results.{Ending, ending, told}
 use Rattle.layout.specs.State.{stored}
-use Rattle.calls.specs.Call.{made as callOf}
+use Rattle.calls.specs.Response.{made as callOf}
 use Rattle.calls.specs.declared.outcome.Outcome.{Outcome}
 use Rattle.results.specs.Written.{made, answered}
 use Rattle.results.proofs.writing.finish.Statement.{statement}

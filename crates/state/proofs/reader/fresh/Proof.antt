@@ -1,6 +1,6 @@
 -- The reader, field by field. Assumes nothing.
 use mathlib.Core.Path.{refl}
-use Rattle.state.specs.Desk.{freshReader}
+use Rattle.state.specs.Configuration.{freshReader}
 use Rattle.state.proofs.reader.fresh.Statement.{statement}
 use Rattle.state.proofs.reader.fresh.Tie as tie
 

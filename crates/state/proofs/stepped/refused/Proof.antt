@@ -1,6 +1,6 @@
 -- The bytes are cleared, and the reader is in its last phase. Assumes nothing.
 use borrow.Author.Needs.{needs}
-use Rattle.state.specs.Desk.{refuse}
+use Rattle.state.specs.Configuration.{refuse}
 use Rattle.state.proofs.stepped.refused.Statement.{statement}
 use Rattle.state.proofs.stepped.refused.Tie as tie
 

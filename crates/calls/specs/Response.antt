@@ -6,7 +6,7 @@ use Prim.Native.Nat.{ℕ}
 use lib.Dec.{leb}
 use lib.ListN.{length}
 use Rattle.stream.specs.Limits.{headLimit, blockLimit}
-use Rattle.state.specs.Desk.{Desk, desk, readerAt, Next, on, stop, noSignature}
+use Rattle.state.specs.Configuration.{Configuration, configuration, readerAt, Next, on, stop, noSignature}
 use Rattle.state.specs.declared.phase.Phase.{Phase}
 use Rattle.state.specs.declared.phase.Phase.the-variants as P
 use Rattle.state.specs.declared.reader.Reader.{Reader}
@@ -15,37 +15,37 @@ use Rattle.state.specs.declared.word.Word.the-variants as W
 use Rattle.calls.specs.declared.outcome.Outcome.{Outcome}
 
 -- the word, how many bytes were taken, the signature that a question is about, and the reader with its buffers after the call
-pub record Call : Type 0 where
+pub record Response : Type 0 where
   pub word : Word
   pub taken : ℕ
   pub signature : List ℕ
-  pub after : Desk
+  pub after : Configuration
 
-abbrev pub call : Word → ℕ → List ℕ → Desk → Call
-call w n signature d = record { word = w; taken = n; signature = signature; after = d }
+abbrev pub response : Word → ℕ → List ℕ → Configuration → Response
+response w n signature d = record { word = w; taken = n; signature = signature; after = d }
 
 -- a word that is no question
-abbrev pub telling : Word → ℕ → Desk → Call
-telling w n d = call w n noSignature d
+abbrev pub telling : Word → ℕ → Configuration → Response
+telling w n d = response w n noSignature d
 
 -- what the code's answer says, with the buffers as it leaves them
-abbrev pub made : Outcome → List ℕ → List ℕ → List ℕ → Call
-made o h b q = call (o .word) (o .taken) (o .signature) (desk (o .reader) h b q)
+abbrev pub made : Outcome → List ℕ → List ℕ → List ℕ → Response
+made o h b q = response (o .word) (o .taken) (o .signature) (configuration (o .reader) h b q)
 
 -- refusals 1 and 2: "nothing changed, 0 taken"
-abbrev pub unchanged : ℕ → Desk → Call
+abbrev pub unchanged : ℕ → Configuration → Response
 unchanged n d = telling (W.Refused n) 0 d
 
 -- what a step leads to, as the end of a call that has taken so many bytes
-abbrev pub given : ℕ → Next → Call
+abbrev pub given : ℕ → Next → Response
 given taken (on d) = telling W.More taken d
-given taken (stop w signature d) = call w taken signature d
+given taken (stop w signature d) = response w taken signature d
 
 -- "head hold (at least 8,192 bytes), block hold (at least 65,536), question hold (at least 8,192)"
 unfoldable pub areRoomy : ℕ → ℕ → ℕ → Bool
 areRoomy head block question = leb headLimit head && (leb blockLimit block && leb headLimit question)
 
-abbrev pub fits : Desk → Bool
+abbrev pub fits : Configuration → Bool
 fits d = areRoomy (length (d .head)) (length (d .block)) (length (d .question))
 
 -- a feed or an end is due: no question is open, and no final event has come
@@ -65,5 +65,5 @@ isReading (P.Refused n) = false
 abbrev pub takingBack : Reader → Reader
 takingBack r = readerAt r (r .phase) (r .fixed) (r .chain) 0
 
-abbrev pub recalled : Desk → Desk
-recalled d = desk (takingBack (d .reader)) (d .head) (d .block) (d .question)
+abbrev pub recalled : Configuration → Configuration
+recalled d = configuration (takingBack (d .reader)) (d .head) (d .block) (d .question)

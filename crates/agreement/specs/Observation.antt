@@ -13,12 +13,16 @@ pub data Told : Type 0 where
 
 -- the word with all that it carries, and the count taken; then, as they are handed out after the call, the released block and the
 -- value of a field by its name
-pub record Shown : Type 0 where
+pub record Observation : Type 0 where
   pub out : Out Question Told LastWord
   pub block : List ℕ
   pub value : List ℕ → List ℕ
 
+-- what is seen of a list of calls
+abbrev pub Trace : Type 0
+Trace = List Observation
+
 -- the words and the counts alone
-unfoldable pub outs : List Shown → List (Out Question Told LastWord)
+unfoldable pub outs : Trace → List (Out Question Told LastWord)
 outs [] = []
 outs (s ∷ ss) = s .out ∷ outs ss

@@ -15,14 +15,14 @@ use Rattle.state.specs.declared.word.Word.{Word}
 use Rattle.state.specs.declared.word.Word.the-variants as W
 
 -- paper 01's head hold, block hold and question hold
-pub record Desk : Type 0 where
+pub record Configuration : Type 0 where
   pub reader : Reader
   pub head : List ℕ
   pub block : List ℕ
   pub question : List ℕ
 
-abbrev pub desk : Reader → List ℕ → List ℕ → List ℕ → Desk
-desk r h b q = record { reader = r; head = h; block = b; question = q }
+abbrev pub configuration : Reader → List ℕ → List ℕ → List ℕ → Configuration
+configuration r h b q = record { reader = r; head = h; block = b; question = q }
 
 -- ---- the reader before its stream
 
@@ -62,19 +62,19 @@ abbrev pub withHash : Reader → Phase → List ℕ → Reader
 withHash r p hash = renewed r p (r .line) (record { number = r .chain .number; hash = hash })
 
 -- the same buffers, the reader in another phase
-abbrev pub moved : Desk → Phase → Desk
-moved d p = desk (inPhase (d .reader) p) (d .head) (d .block) (d .question)
+abbrev pub moved : Configuration → Phase → Configuration
+moved d p = configuration (inPhase (d .reader) p) (d .head) (d .block) (d .question)
 
 -- the same buffers, the reader with another line
-abbrev pub lined : Desk → Phase → List ℕ → Desk
-lined d p line = desk (withLine (d .reader) p line) (d .head) (d .block) (d .question)
+abbrev pub lined : Configuration → Phase → List ℕ → Configuration
+lined d p line = configuration (withLine (d .reader) p line) (d .head) (d .block) (d .question)
 
 -- ---- what a byte leads to
 
 -- the reader goes on, or it says a word; with a question goes the signature that it is about
 pub data Next : Type 0 where
-  on : Desk → Next
-  stop : Word → List ℕ → Desk → Next
+  on : Configuration → Next
+  stop : Word → List ℕ → Configuration → Next
 
 -- where a word comes without a signature
 abbrev pub noSignature : List ℕ
@@ -91,7 +91,7 @@ goesOn (W.Refused n) = false
 -- what the code's answer says, with the buffers as it leaves them
 abbrev pub nextOf : Stepped → List ℕ → List ℕ → List ℕ → Next
 nextOf s h b q =
-    pick (goesOn (s .word)) (on (desk (s .reader) h b q)) (stop (s .word) (s .signature) (desk (s .reader) h b q))
+    pick (goesOn (s .word)) (on (configuration (s .reader) h b q)) (stop (s .word) (s .signature) (configuration (s .reader) h b q))
 
 abbrev pub saying : Word → Reader → Stepped
 saying w r = record { word = w; signature = noSignature; reader = r }
@@ -116,7 +116,7 @@ unfoldable pub cleared : ℕ → List ℕ → List ℕ
 cleared n l = replicate (min n (length l)) 0 ++ drop n l
 
 -- "sets the pending bytes gathered in the block hold to zero and alters no other byte of any hold": `count` are pending
-unfoldable pub refuse : ℕ → ℕ → Desk → Next
+unfoldable pub refuse : ℕ → ℕ → Configuration → Next
 refuse n count d =
     stop (W.Refused n) noSignature
-    (desk (inPhase (d .reader) (P.Refused n)) (d .head) (cleared count (d .block)) (d .question))
+    (configuration (inPhase (d .reader) (P.Refused n)) (d .head) (cleared count (d .block)) (d .question))
