@@ -37,7 +37,7 @@ pub data FedAs (ring : Ring) (fields : List Field) (t : ℕ) : Fed → Turn Cont
       → FedAs ring fields t (Run.event w signature m d) ((event e, n), s)
 
 module _ (ring : Ring) (fields : List Field) where
-  byte-at : (d : Configuration) (x : ℕ) (p : Phase) {c : Context} {g : List ℕ} → Lent d fields → d .reader .released ≡ 0 → At ring d p (running c g)
+  pub byte-at : (d : Configuration) (x : ℕ) (p : Phase) {c : Context} {g : List ℕ} → Lent d fields → d .reader .released ≡ 0 → At ring d p (running c g)
       → Follows ring fields (pushAt ring p d x) (step (rules ring) c g x)
   unfolding pushAt
   byte-at d x p l z (F.head {n} {g} early a e) = head-step ring fields d x l z early n g a e

@@ -15,3 +15,4 @@ pub mod Taking
 pub mod FineBytes
 pub mod Misuse
 pub mod RingUse
+pub mod Signatures

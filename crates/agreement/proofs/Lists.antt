@@ -68,7 +68,7 @@ called-follows keys d h s (answer good) k = rw (roomy (k .lent)) (answer-follows
 called-follows keys d h s end k = rw (roomy (k .lent)) (end-follows (ringOf keys) h d s k)
 
 -- a call with other buffers, which will not do, leaves ours as they are
-aside-unchanged : (d : Configuration) (h b q : List ℕ) (keys : KeyRing) (k : Request) → loanFits h b q keys k ≡ false
+pub aside-unchanged : (d : Configuration) (h b q : List ℕ) (keys : KeyRing) (k : Request) → loanFits h b q keys k ≡ false
     → aside keys d (configuration (d .reader) h b q) k ≡ unchanged 2 d
 aside-unchanged d h b q keys k e = rw (misfit-unchanged (d .reader) h b q keys k e)
 

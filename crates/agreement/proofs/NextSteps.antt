@@ -89,7 +89,7 @@ module _ (ring : Ring) (fields : List Field) (d : Configuration) (x : ℕ) (lent
   offset-is : offsetNow (d′ .reader) .0 ≡ blockOffset s p
   offset-is = offset-now (d′ .reader) s p (length b) (u .keeps) (u .counts .blocks) (u .sound)
 
-  message-is : messageNow d′ size ≡ written (length message) (message ++ drop (length message) (d .question))
+  pub message-is : messageNow d′ size ≡ written (length message) (message ++ drop (length message) (d .question))
   unfolding messageNow
   message-is = rw (hash-is, offset-is, u .keeps .id) (front-fits message (d .question) fits)
 
@@ -136,7 +136,7 @@ module _ (ring : Ring) (fields : List Field) (d : Configuration) (x : ℕ) (lent
   answered zero e h = question-follows e h
   answered (suc n) e h = refuses (suc n) size d′ (line-number (s .size) true (eqb (length b) (s .size)) (bodyWith s p b) l n e) lent′ none
 
-  judged-is : nextJudged (d′ .reader) size l ≡ lineJudged (s .size) true (eqb (length b) (s .size)) (bodyWith s p b) l
+  pub judged-is : nextJudged (d′ .reader) size l ≡ lineJudged (s .size) true (eqb (length b) (s .size)) (bodyWith s p b) l
   unfolding nextJudged
   judged-is =
       let e : Line.bodyWith (d′ .reader) size ≡ bodyWith s p b =

@@ -9,7 +9,7 @@ use Rattle.octets.specs.Choice.{pick}
 use Rattle.sections.specs.Reading.{Event, question, message, last, Grant, granted}
 use Rattle.sections.specs.Machine.{State, running, asked, finished, Step}
 use Rattle.sections.specs.Machine as M
-use Rattle.sections.specs.Calls.{Reply, event}
+use Rattle.sections.specs.Calls.{event}
 use Rattle.stream.specs.Blocks.{chained}
 use Rattle.stream.specs.Events.{Question, Release, headAccepted, block, LastWord}
 use Rattle.stream.specs.Fields.{valueOf}

@@ -16,11 +16,11 @@ use Rattle.stream.specs.Stream.{Context, head, rules, plainReading}
 use Rattle.agreement.specs.Observation.{Told, outs}
 use Rattle.agreement.specs.Plain.{toldEvent, toldWord, toldLog, Handed, nothing, handedAfter, traceFrom, plainTrace}
 
-abbrev Outs : Type 0
+abbrev pub Outs : Type 0
 Outs = List (Out Question Release LastWord)
 
 -- what is told of each
-abbrev toldOuts : Outs → List (Out Question Told LastWord)
+abbrev pub toldOuts : Outs → List (Out Question Told LastWord)
 toldOuts [] = []
 toldOuts (o ∷ os) = (toldWord (o .0), o .1) ∷ toldOuts os
 
@@ -43,19 +43,19 @@ resumes-told left [] os r = r
 resumes-told left (k ∷ ks) [] r = r
 resumes-told left (k ∷ ks) (o ∷ os) r = (rw (heard-told (o .0)) at (r .0), resumes-told (drop (o .1) left) ks os (r .1))
 
-answers-told : (ks : List Call) (os : Outs) → answersHeard ks (toldOuts os) ≡ answersHeard ks os
+pub answers-told : (ks : List Call) (os : Outs) → answersHeard ks (toldOuts os) ≡ answersHeard ks os
 unfolding answersHeard
 answers-told [] os = refl
 answers-told (k ∷ ks) [] = refl
 answers-told (k ∷ ks) (o ∷ os) = rw (heard-told (o .0), answers-told ks os)
 
-bytes-told : (ks : List Call) (os : Outs) → bytesTaken ks (toldOuts os) ≡ bytesTaken ks os
+pub bytes-told : (ks : List Call) (os : Outs) → bytesTaken ks (toldOuts os) ≡ bytesTaken ks os
 unfolding bytesTaken
 bytes-told [] os = refl
 bytes-told (k ∷ ks) [] = refl
 bytes-told (k ∷ ks) (o ∷ os) = rw (heard-told (o .0), bytes-told ks os)
 
-end-told : (ks : List Call) (os : Outs) → endHeard ks (toldOuts os) ≡ endHeard ks os
+pub end-told : (ks : List Call) (os : Outs) → endHeard ks (toldOuts os) ≡ endHeard ks os
 unfolding endHeard
 end-told [] os = refl
 end-told (k ∷ ks) [] = refl
@@ -95,7 +95,7 @@ tracks-told {log} {whole} t =
       complete = λ e. ap toldLog (t .complete (sym (standing-told log) ∙ e));
     }
 
-outs-run : (ring : Ring) (ks : List Call) → outs (traceFrom nothing ks (readCalls (rules ring) head ks)) ≡ toldOuts (runCalls (rules ring) head ks)
+pub outs-run : (ring : Ring) (ks : List Call) → outs (traceFrom nothing ks (readCalls (rules ring) head ks)) ≡ toldOuts (runCalls (rules ring) head ks)
 unfolding runCalls
 outs-run ring ks = rw (← calls-agree (rules ring) head ks) (outs-told ring ks nothing (running head []))
 

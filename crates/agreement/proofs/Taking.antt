@@ -18,7 +18,7 @@ use Rattle.agreement.specs.Loans.{loanFits}
 use Rattle.agreement.proofs.Rooms.{loan-same}
 
 -- of a run over xs, under any rule of bytes, with t bytes taken before
-run-takes : (push : Configuration → ℕ → Next) (d : Configuration) (t : ℕ) (xs : List ℕ) → Between t (t + length xs) (fed (runOf push d t xs) .taken)
+pub run-takes : (push : Configuration → ℕ → Next) (d : Configuration) (t : ℕ) (xs : List ℕ) → Between t (t + length xs) (fed (runOf push d t xs) .taken)
 unfolding runOf
 run-takes push d t [] = record { least = omega arith; most = omega arith }
 run-takes push d t (x ∷ xs) = by (push d x) (λ d′. run-takes push d′ (t + 1) xs)

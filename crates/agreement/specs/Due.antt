@@ -50,6 +50,15 @@ isMisuse (W.Block offset n) = false
 isMisuse (W.Closed total) = false
 isMisuse (W.Refused n) = isOfCall n
 
+-- the word asks a question: with it goes a signature
+abbrev pub isQuestion : Code.Word → Bool
+isQuestion W.More = false
+isQuestion (W.Question n key) = true
+isQuestion (W.Head status) = false
+isQuestion (W.Block offset n) = false
+isQuestion (W.Closed total) = false
+isQuestion (W.Refused n) = false
+
 -- between the two, both included
 pub record Between (low high n : ℕ) : Type 0 where
   pub least : low ≤ n

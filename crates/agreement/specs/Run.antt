@@ -1,7 +1,7 @@
 -- A list of calls of the reader, from a fresh one, and what a caller sees of each: the functions that the contracts of `feed`,
 -- `answer`, `end`, `block_part` and `field_part` name, and nothing else. Assumes nothing.
 use mathlib.Core.Path.{_≡_}
-use mathlib.Core.Bool.{Bool, false}
+use mathlib.Core.Bool.{false}
 use mathlib.Core.List.{List, [], _∷_}
 use Prim.Native.Nat.{ℕ}
 use lib.Dec.{leb}

@@ -1,5 +1,4 @@
--- THE DAY TALLY. Over any list of calls the tally's counts are those of the plain reading's events, each cut to its largest value.
--- Assumes nothing.
+-- THE DAY TALLY, proved. Assumes nothing.
 use mathlib.Core.Path.{_≡_, refl, sym, ap, ap₂, _∙_}
 use mathlib.Core.Bool.{Bool, true, false}
 use mathlib.Core.List.{List, [], _∷_, _++_}
@@ -19,10 +18,9 @@ use Rattle.agreement.specs.Observation.{Told, outs}
 use Rattle.agreement.specs.Observation as S
 use Rattle.agreement.specs.Plain.{toldEvent, toldLog}
 use Rattle.agreement.specs.Run.{Invocation, wordSeen, observed, runCall, runFrom, run}
-use Rattle.tally.specs.Counting.{noCounts, tallied}
 use Rattle.tally.specs.Counts.{Counts, counts, nothing, together, shown, refusalCounts, eventCounts, countsOf, wordCounts, wordsCount}
 use Rattle.tally.proofs.Totals.{together-assoc, nothing-together, tally-of-words, counts-append}
-use Rattle.claims.specs.Words.{wordsFrom, wordsOfRun, Sitting, dayWords, eventsRead, dayEvents}
+use Rattle.claims.specs.Words.{wordsFrom, wordsOfRun, Sitting, dayWords, eventsRead, dayEvents, TalliesTheDay}
 use Rattle.claims.proofs.Demand3.{demand-3}
 
 -- what a told event adds, and a word as it is seen
@@ -107,7 +105,5 @@ day-counted (s ∷ ss) =
     ∙ ap₂ together (run-counted (s .keys) (s .head) (s .block) (s .question) (s .calls)) (day-counted ss)
     ∙ sym (counts-append (eventsRead (s .keys) (s .head) (s .block) (s .question) (s .calls)) (dayEvents ss))
 
--- A tally that is zero at first, and is given the word of each call of any lists of calls, one stream after the other, shows what the
--- events of their plain readings come to.
-pub day-tally : (ss : List Sitting) → tallied noCounts (dayWords ss) ≡ shown (countsOf (dayEvents ss))
+pub day-tally : (ss : List Sitting) → TalliesTheDay ss
 day-tally ss = tally-of-words (dayWords ss) ∙ ap shown (day-counted ss)

@@ -1,53 +1,29 @@
--- DEMAND 2. It does what the published rules say: a block comes out exactly when every rule up to it holds and each answer so far was
--- yes, and an honest stream comes out whole. Assumes nothing.
---
--- What keeps the rules is said in crate exactness, from the paper and not from the reading: `ReleasesBlock` (a beginning of the stream
--- with a good head, good blocks and good lines, whose last block is this one) and `Honest` (a show as its sender may write it down).
--- The same theorems about the plain reading alone are `block-exact`, `head-exact` and `show-complete` there.
+-- DEMAND 2, proved. Assumes nothing.
 use mathlib.Core.Path.{_≡_, ap, _∙_}
-use mathlib.Core.Bool.{Bool, true}
-use mathlib.Core.List.{List, [], _++_, append-nil}
-use Prim.Native.Nat.{ℕ, suc}
-use lib.ListN.{length, replicate}
-use mathlib.Core.Logic.{_↔_}
+use mathlib.Core.List.{List, [], append-nil}
+use Prim.Native.Nat.{ℕ}
 use Rattle.ring.specs.Keys.{ringOf}
 use Rattle.ring.specs.declared.KeyRing.{KeyRing}
-use Rattle.sections.specs.Reading.{message}
 use Rattle.sections.specs.Resuming.{events}
-use Rattle.stream.specs.Events.{block}
-use Rattle.agreement.specs.Plain.{told, toldLog}
+use Rattle.agreement.specs.Plain.{toldLog}
 use Rattle.agreement.specs.Run.{Invocation}
-use Rattle.exactness.specs.Releases.{ReleasesBlock}
 use Rattle.exactness.specs.ShowEvents.{showEvents}
-use Rattle.exactness.specs.Shows.{WholeShow, streamOf, bodyOf, Honest}
-use Rattle.exactness.specs.Telling.{Stands}
+use Rattle.exactness.specs.Shows.{streamOf}
 use Rattle.exactness.proofs.Completeness.{show-complete, show-released}
 use Rattle.exactness.proofs.Exactness.{block-exact}
 use Rattle.claims.specs.Body.{bodyTold}
+use Rattle.claims.specs.Demand2.{BlockComesOut, HonestComesOut}
 use Rattle.claims.specs.Runs.{words, taken, answers, ended}
 use Rattle.claims.proofs.Told.{block-told, told-block, body-told}
 use Rattle.claims.proofs.Demand3.{demand-3}
 
 module _ (keys : KeyRing) (h b q : List ℕ) (ks : List Invocation) where
-  -- EXACTLY THEN: a run shows a block, at an offset of the body and with its bytes as they are handed out, at a place of the stream,
-  -- exactly when the bytes that it took begin as the rules ask up to that place, with this block as the last, and the answers that
-  -- it heard, up to and with the one about this block, are all yes.
-  pub block-comes-out : (at o : ℕ) (bytes : List ℕ)
-      → Stands (at, message (told (block o bytes))) (events (words keys h b q ks))
-      ↔ ReleasesBlock (ringOf keys) (taken keys h b q ks) (answers keys h b q ks) at o bytes
+  pub block-comes-out : BlockComesOut keys h b q ks
   block-comes-out at o bytes =
       let x = block-exact (ringOf keys) (taken keys h b q ks) (answers keys h b q ks) (ended keys h b q ks) at o bytes in
       rw (demand-3 keys h b q ks .all-taken) (λ s. x .0 (told-block at o bytes _ s), λ r. block-told at o bytes _ (x .1 r))
 
-  -- AN HONEST SHOW, however its stream is cut, once it is taken and each question was answered with yes: the events are those computed
-  -- from the show, up to closed, and the blocks handed out, joined, are its body.
-  pub record ComesOutWhole (s : WholeShow) : Type 0 where
-    pub all-events : events (words keys h b q ks) ≡ toldLog (showEvents (ringOf keys) s)
-    pub whole-body : bodyTold (events (words keys h b q ks)) ≡ bodyOf (s .chunks)
-
-  pub honest-comes-out : (s : WholeShow) (more : List Bool) → Honest (ringOf keys) s
-      → taken keys h b q ks ≡ streamOf s → answers keys h b q ks ≡ replicate (suc (length (s .chunks))) true ++ more
-      → ComesOutWhole s
+  pub honest-comes-out : HonestComesOut keys h b q ks
   honest-comes-out s more g t a =
       let r = rw (append-nil (streamOf s)) at (show-complete (ringOf keys) s [] more (ended keys h b q ks) g) in
       let e : events (words keys h b q ks) ≡ toldLog (showEvents (ringOf keys) s) =

@@ -1,8 +1,11 @@
+pub mod LentCalls
 pub mod Demand1
 pub mod Demand3
+pub mod Untold
 pub mod Told
 pub mod Demand2
 pub mod DayTally
 pub mod LentRing
+pub mod Alongside
 pub mod Reached
 pub mod OnBytes

@@ -1,49 +1,75 @@
--- THE HONEST SHOW DOES COME OUT: the claims about runs that took a whole stream do not hold for want of such runs. Assumes nothing.
-use mathlib.Core.Path.{_≡_, refl, ap, _∙_}
-use mathlib.Core.Bool.{true}
-use mathlib.Core.List.{List, [], _∷_}
-use Prim.Native.Nat.{ℕ}
+-- RUNS THAT FINISH, proved. Assumes nothing.
+use mathlib.Core.Path.{_≡_, sym, ap, _∙_}
+use mathlib.Core.Bool.{Bool, true}
+use mathlib.Core.List.{List, [], _++_, append-nil}
+use Prim.Native.Nat.{ℕ, suc}
 use lib.Dec.{leb}
+use lib.ListN.{length, replicate}
 use Rattle.ring.specs.Keys.{ringOf}
 use Rattle.ring.specs.declared.KeyRing.{KeyRing}
 use Rattle.sections.specs.Calls.{Request, feed, answer, end}
+use Rattle.sections.specs.Machine.{runCalls}
 use Rattle.sections.specs.Resuming.{events}
 use Rattle.stream.specs.Limits.{ringLimit}
-use Rattle.stream.specs.Stream.{head, rules}
+use Rattle.stream.specs.Stream.{head, rules, plainReading}
 use Rattle.agreement.specs.Loans.{haveRoom, loanFits}
 use Rattle.agreement.specs.Plain.{toldLog}
-use Rattle.agreement.specs.Run.{plainCalls}
 use Rattle.agreement.proofs.Streams.{shown-events}
-use Rattle.exactness.specs.ShowEvents.{showEvents}
 use Rattle.exactness.specs.Shows.{WholeShow, streamOf, Honest}
-use Rattle.exactness.proofs.Completeness.{show-released}
-use Rattle.reaching.specs.Driver.{wellLent, requestsOver}
-use Rattle.reaching.proofs.Reaching as Machine
-use Rattle.claims.specs.Body.{bodyTold}
-use Rattle.claims.specs.Ordinary.{allSame, ordinaryCalls}
-use Rattle.claims.specs.Runs.{words}
-use Rattle.claims.proofs.Demand2.{ComesOutWhole}
+use Rattle.reaching.specs.Driver.{callsOver}
+use Rattle.reaching.proofs.SideBySide.{alike-resumes, alike-took, alike-answers, alike-stands}
+use Rattle.reaching.proofs.Finishing as Finishing
+use Rattle.reaching.proofs.Reaching as Reaching
+use Rattle.claims.specs.Ordinary.{ordinaryCalls}
+use Rattle.claims.specs.Reached.{Reached, ReadToItsEnd, HonestReached, CallerFinishes}
+use Rattle.claims.specs.Runs.{words, taken, answers}
+use Rattle.claims.proofs.Alongside.{plain-calls, words-alike}
+use Rattle.claims.proofs.Demand2.{honest-comes-out}
 use Rattle.claims.proofs.Demand3.{demand-3}
-use Rattle.claims.proofs.Told.{body-told}
 
 module _ (keys : KeyRing) (h b q : List ℕ) (room : haveRoom h b q ≡ true) (few : leb (keys .count) ringLimit ≡ true) where
   one-fits : (r : Request) → loanFits h b q keys r ≡ true
   unfolding loanFits
-  one-fits (feed piece) = rw (room, few)
+  one-fits (feed piece) = rw (few, room)
   one-fits (answer good) = rw room
   one-fits end = rw room
 
-  all-fit : (rs : List Request) → plainCalls keys h b q (allSame rs) ≡ wellLent rs
-  unfolding plainCalls allSame wellLent
-  all-fit [] = refl
-  all-fit (r ∷ rs) = rw (one-fits r, all-fit rs)
+  finishes : (lengths : List ℕ) (given : List Bool) (stream : List ℕ)
+      → ReadToItsEnd keys h b q (ordinaryCalls keys h b q lengths given stream) stream given
+  unfolding plainReading
+  finishes lengths given stream =
+      let ks = ordinaryCalls keys h b q lengths given stream in
+      let m = Finishing.caller-finishes (rules (ringOf keys)) head lengths given stream in
+      let p = plain-calls keys h b q one-fits lengths given stream in
+      let a = words-alike keys h b q one-fits lengths given stream in
+      let e : events (words keys h b q ks) ≡ toldLog (events (runCalls (rules (ringOf keys)) head (callsOver (rules (ringOf keys)) head lengths given stream))) =
+      rw (demand-3 keys h b q ks .each-call, p) (shown-events (ringOf keys) _) in
+      record {
+        resumes = rw p (alike-resumes stream _ a (m .resumes));
+        all-events = e ∙ ap toldLog (m .all-events);
+        answered = rw p (alike-answers _ a ∙ m .answered);
+        is-over = λ i. alike-stands 0 a ∙ m .is-over i;
+      }
 
-  -- With buffers and a ring that will do, and pieces of any lengths, the ordinary caller gets every honest show whole.
-  pub honest-reached : (s : WholeShow) (lengths : List ℕ) → Honest (ringOf keys) s → ComesOutWhole keys h b q (ordinaryCalls keys lengths (streamOf s)) s
-  honest-reached s lengths g =
-      let ks = ordinaryCalls keys lengths (streamOf s) in
-      let rs = requestsOver (rules (ringOf keys)) head lengths (streamOf s) in
-      let e : events (words keys h b q ks) ≡ toldLog (showEvents (ringOf keys) s) =
-      rw (demand-3 keys h b q ks .each-call, all-fit rs)
-      (shown-events (ringOf keys) (wellLent rs) ∙ ap toldLog (Machine.honest-reached (ringOf keys) s lengths g .all-events)) in
-      record { all-events = e; whole-body = ap bodyTold e ∙ body-told (showEvents (ringOf keys) s) ∙ show-released (ringOf keys) s g }
+  reached : (s : WholeShow) (lengths : List ℕ) (others : List Bool) → Honest (ringOf keys) s
+      → Reached keys h b q (ordinaryCalls keys h b q lengths (replicate (suc (length (s .chunks))) true ++ others) (streamOf s)) s
+  reached s lengths others g =
+      let given = replicate (suc (length (s .chunks))) true ++ others in
+      let ks = ordinaryCalls keys h b q lengths given (streamOf s) in
+      let m = Reaching.honest-reached (ringOf keys) s lengths others g in
+      let p = plain-calls keys h b q one-fits lengths given (streamOf s) in
+      let a = words-alike keys h b q one-fits lengths given (streamOf s) in
+      let t : taken keys h b q ks ≡ streamOf s = rw p (alike-took _ a ∙ m .took) in
+      let y : answers keys h b q ks ≡ replicate (suc (length (s .chunks))) true = rw p (alike-answers _ a ∙ m .yeses) in
+      record {
+        resumes = rw p (alike-resumes (streamOf s) _ a (m .resumes));
+        took = t;
+        yeses = y;
+        whole = honest-comes-out keys h b q ks s [] g t (y ∙ sym (append-nil _));
+      }
+
+pub caller-finishes : (keys : KeyRing) (h b q : List ℕ) → CallerFinishes keys h b q
+caller-finishes keys h b q room few lengths given stream = finishes keys h b q room few lengths given stream
+
+pub honest-reached : (keys : KeyRing) (h b q : List ℕ) → HonestReached keys h b q
+honest-reached keys h b q room few s lengths others g = reached keys h b q room few s lengths others g

@@ -3,4 +3,8 @@ pub mod Runs
 pub mod Lent
 pub mod Words
 pub mod Ordinary
+pub mod Demand1
+pub mod Demand2
+pub mod Demand3
+pub mod Reached
 pub mod Asked

@@ -1,4 +1,6 @@
--- A day of streams, and the words that their calls return, as the day tally is given them. Assumes nothing.
+-- A day of streams, the words that their calls return, as the day tally is given them, and what is claimed of the tally. Assumes
+-- nothing.
+use mathlib.Core.Path.{_≡_}
 use mathlib.Core.List.{List, [], _∷_, _++_}
 use Prim.Native.Nat.{ℕ}
 use Rattle.ring.specs.Keys.{ringOf}
@@ -8,6 +10,8 @@ use Rattle.stream.specs.Events.{Question, Release, LastWord}
 use Rattle.stream.specs.Stream.{plainReading}
 use Rattle.state.specs.Configuration.{Configuration, configuration, freshReader}
 use Rattle.state.specs.declared.word.Word.{Word}
+use Rattle.tally.specs.Counting.{noCounts, tallied}
+use Rattle.tally.specs.Counts.{shown, countsOf}
 use Rattle.agreement.specs.Run.{Invocation, runCall}
 use Rattle.claims.specs.Runs.{taken, answers, ended}
 
@@ -41,3 +45,8 @@ eventsRead keys h b q ks = plainReading (ringOf keys) (taken keys h b q ks) (ans
 unfoldable pub dayEvents : List Sitting → Log Question Release LastWord
 dayEvents [] = []
 dayEvents (s ∷ ss) = eventsRead (s .keys) (s .head) (s .block) (s .question) (s .calls) ++ dayEvents ss
+
+-- THE DAY TALLY. A tally that is zero at first, and is given the word of each call of any lists of calls, one stream after the other, shows
+-- what the events of their plain readings come to, each count cut to its largest value.
+abbrev pub TalliesTheDay : List Sitting → Type 0
+TalliesTheDay ss = tallied noCounts (dayWords ss) ≡ shown (countsOf (dayEvents ss))

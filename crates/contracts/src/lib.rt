@@ -1,5 +1,5 @@
-// The reader's calls, with contracts in the words of the claims: `called` is one call of the claims' run, and `blockSeen` and
-// `valueSeen` are what the claims say a caller sees. Each body is the call itself.
+// The reader's calls, with contracts in the words of the claims: a run starts from `freshReader`, `called` is one call of it, and
+// `blockSeen` and `valueSeen` are what the claims say a caller sees. Each body is the call itself.
 use reader::Outcome;
 use ring::KeyRing;
 use state::Reader;
@@ -7,9 +7,15 @@ ghost use mathlib.Core.List.{List};
 ghost use mathlib.Core.Path.{_≡_};
 ghost use Prim.Native.Nat.{ℕ};
 ghost use Rattle.sections.specs.Calls as C;
-ghost use Rattle.state.specs.Configuration.{configuration};
+ghost use Rattle.state.specs.Configuration.{configuration, freshReader};
 ghost use Rattle.calls.specs.Response.{made};
 ghost use Rattle.agreement.specs.Run.{called, blockSeen, valueSeen};
+
+fn fresh() -> Reader
+    ensures { λ r. ⌜ r ≡ freshReader ⌝ }
+{
+    reader::fresh()
+}
 
 fn feed(
     r: Reader,

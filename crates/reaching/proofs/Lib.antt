@@ -1,4 +1,7 @@
-pub mod Ahead
-pub mod Arriving
+pub mod Feeds
+pub mod Course
+pub mod Calling
+pub mod Finishing
 pub mod Reaching
+pub mod SideBySide
 pub mod Example

@@ -1,3 +1,4 @@
+pub mod Caller
 pub mod Driver
 pub mod Arrival
 pub mod Outcome

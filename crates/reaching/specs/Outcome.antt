@@ -1,6 +1,6 @@
 -- What the ordinary caller is to get of an honest show. Assumes nothing.
 use mathlib.Core.Path.{_≡_}
-use mathlib.Core.Bool.{true}
+use mathlib.Core.Bool.{Bool, true}
 use mathlib.Core.List.{List, [], _∷_, _++_}
 use Prim.Native.Nat.{ℕ, suc}
 use lib.ListN.{length, replicate}
@@ -16,12 +16,13 @@ use Rattle.exactness.specs.Shows.{WholeShow, bodyOf, streamOf}
 use Rattle.reaching.specs.Driver.{callsOver}
 
 module _ (ring : Ring) where
-  -- the caller's calls, for any lengths of the pieces, and what they return
-  abbrev pub showCalls : List ℕ → WholeShow → List Call
-  showCalls lengths s = callsOver (rules ring) head lengths (streamOf s)
+  -- the caller's calls, for any lengths of the pieces, with a yes for the head and for each block, and any answers more; and what
+  -- they return
+  abbrev pub showCalls : List ℕ → List Bool → WholeShow → List Call
+  showCalls lengths others s = callsOver (rules ring) head lengths (replicate (suc (length (s .chunks))) true ++ others) (streamOf s)
 
-  abbrev pub showOuts : List ℕ → WholeShow → List (Out Question Release LastWord)
-  showOuts lengths s = runCalls (rules ring) head (showCalls lengths s)
+  abbrev pub showOuts : List ℕ → List Bool → WholeShow → List (Out Question Release LastWord)
+  showOuts lengths others s = runCalls (rules ring) head (showCalls lengths others s)
 
   pub record ComesOut (s : WholeShow) (ks : List Call) (os : List (Out Question Release LastWord)) : Type 0 where
     -- each piece begins at the first byte not taken

@@ -21,13 +21,15 @@ Log Q E L = List (ℕ × Event Q E L)
 
 -- ---- the rules of a protocol
 
--- What a yes to a question gives: a message, and reading goes on in a context; or a last word.
+-- What a yes to a question gives: a message, and reading goes on in a context; or a last word. (In paper 01 each yes gives a message;
+-- `final` is there for a protocol whose last section asks too.)
 pub data Grant (C E L : Type 0) : Type 0 where
   granted : E → C → Grant C E L
   final : L → Grant C E L
 
 -- What a whole section says: nothing, go on; a message that needs no answer, go on; a question, with what a yes
--- gives; or a last word. A context is all that the sections before tell about the section to come.
+-- gives; or a last word. A context is all that the sections before tell about the section to come. (Paper 01 releases nothing without
+-- an answer, so that none of its sections says `tell`: it is there for a protocol that has messages of its own.)
 pub data Verdict (C Q E L : Type 0) : Type 0 where
   go : C → Verdict C Q E L
   tell : E → C → Verdict C Q E L

@@ -34,6 +34,8 @@ extension l = past isHex (lineText l)
 abbrev pub ouisig : List ℕ
 ouisig = octets ";ouisig="
 
+-- Anything after the size counts as a signature here. That is right because 6 is tested before 8: where this is asked, `isChunkLine`
+-- holds, and then nothing but `;ouisig=` and 88 characters can stand there.
 unfoldable pub carriesSignature : List ℕ → Bool
 carriesSignature l = leb 1 (length (extension l))
 

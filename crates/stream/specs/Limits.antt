@@ -1,7 +1,8 @@
 -- Paper 01's limits, each named once. Assumes nothing.
 use Prim.Native.Nat.{ℕ}
 
--- a head, and a trailer, without its end is refused at this many bytes
+-- A head, and a trailer, without its end is refused at this many bytes. The head buffer and the question buffer have as many at least:
+-- a signing string is never longer than its head.
 abbrev pub headLimit : ℕ
 headLimit = 8_192
 

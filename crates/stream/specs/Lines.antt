@@ -33,7 +33,8 @@ beforeEmpty [] = []
 beforeEmpty ([] ∷ ls) = []
 beforeEmpty ((b ∷ l) ∷ ls) = (b ∷ l) ∷ beforeEmpty ls
 
--- the lines of a head or a trailer
+-- The lines of a head or a trailer. What follows the first empty line is dropped: a head and a trailer end with it, and a head that
+-- begins with one has no status line.
 unfoldable pub textLines : List ℕ → List (List ℕ)
 textLines l = beforeEmpty (lines l)
 

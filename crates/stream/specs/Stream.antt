@@ -82,7 +82,8 @@ acceptHead ring h =
 unfoldable pub judgeHead : Ring → List ℕ → Says
 judgeHead ring l = unlessBroken (headFault ring l) (acceptHead ring (headOf l))
 
--- "The first line carries no `ouisig`"; nothing is asked
+-- "The first line carries no `ouisig`"; nothing is asked. No signature is due (false); there is no block before it that could be short
+-- (true); and the body has no bytes so far (0).
 unfoldable pub judgeFirstLine : Show → List ℕ → Says
 judgeFirstLine s l = unlessBroken (lineFault (s .size) false true 0 l) (go (announced s nothing 0 (chunkSize l)))
 

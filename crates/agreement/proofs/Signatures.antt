@@ -1,0 +1,137 @@
+-- Only a question comes with a signature: with any other word go 64 zeros, whatever the state. Assumes nothing.
+use mathlib.Core.Path.{_≡_, refl}
+use mathlib.Core.Bool.{Bool, true, false, true≢false, _&&_}
+use mathlib.Core.List.{List, [], _∷_}
+use Prim.Native.Nat.{ℕ, _+_}
+use lib.Dec.{eqb, leb}
+use lib.ListN.{length, take, set, getD}
+use Rattle.octets.specs.Choice.{pick}
+use Rattle.chunk.specs.declared.judging.LineAnswer.{LineAnswer}
+use Rattle.chunk.specs.declared.judging.LineAnswer.the-variants as A
+use Rattle.ring.specs.Keys.{ringOf}
+use Rattle.ring.specs.declared.KeyRing.{KeyRing}
+use Rattle.sections.specs.Calls.{Request, feed, answer, end}
+use Rattle.stream.specs.Blocks.{isWholeLine}
+use Rattle.stream.specs.Bytes.{same}
+use Rattle.stream.specs.Head.{isWholeHead}
+use Rattle.stream.specs.Limits.{lineLimit, ringLimit}
+use Rattle.stream.specs.Lines.{crlf}
+use Rattle.stream.specs.Ring.{Ring}
+use Rattle.stream.specs.Trailer.{isWholeTrailer, isTrailer}
+use Rattle.signing.specs.declared.judging.HeadAnswer.{HeadAnswer}
+use Rattle.signing.specs.declared.judging.HeadAnswer.the-variants as H
+use Rattle.state.specs.Configuration.{Configuration, Next, on, stop, noSignature, pending, refuse}
+use Rattle.state.specs.Run.{follow, runOf}
+use Rattle.state.specs.declared.phase.Phase.{Phase}
+use Rattle.state.specs.declared.phase.Phase.the-variants as P
+use Rattle.head_steps.specs.HeadByte.{headAnswered, headGathered, pushHead}
+use Rattle.line_steps.specs.FirstLine.{firstAnswered, firstGathered, pushFirstLine}
+use Rattle.line_steps.specs.NextLine.{nextAnswered, nextGathered, pushNextLine}
+use Rattle.line_steps.specs.NextLine as Line
+use Rattle.body_steps.specs.Data.{pushData, pushDataEnd}
+use Rattle.body_steps.specs.Trailer.{trailerGathered, pushTrailer}
+use Rattle.calls.specs.Answer.{headAnswer, blockAnswer, answerAt, answerOf, endOf}
+use Rattle.calls.specs.Response as R
+use Rattle.calls.specs.Response.{fits, isReading, recalled, given}
+use Rattle.reader.specs.Feed.{pushAt, pushByte, fed, takenFrom, feedOf}
+use Rattle.agreement.specs.Due.{isQuestion}
+use Rattle.agreement.specs.Run.{called}
+
+-- ---- a byte
+
+abbrev Unsigned : Next → Type 0
+Unsigned (on d) = Unit {0}
+Unsigned (stop w signature d) = isQuestion w ≡ false → signature ≡ noSignature
+
+unsigned-pick : (t : Bool) (m n : Next) → Unsigned m → Unsigned n → Unsigned (pick t m n)
+unsigned-pick true m n a b = a
+unsigned-pick false m n a b = b
+
+unsigned-refuse : (n count : ℕ) (d : Configuration) → Unsigned (refuse n count d)
+unfolding refuse
+unsigned-refuse n count d = λ e. refl
+
+unsigned-first : (d : Configuration) (a : LineAnswer) → Unsigned (firstAnswered d a)
+unfolding firstAnswered
+unsigned-first d (A.Refused n) = unsigned-refuse n 0 d
+unsigned-first d (A.Good size) = tt
+
+unsigned-next : (d : Configuration) (size : ℕ) (a : LineAnswer) (signature : List ℕ) → Unsigned (nextAnswered d size a signature)
+unfolding nextAnswered Line.asked
+unsigned-next d size (A.Refused n) signature = unsigned-refuse n size d
+unsigned-next d size (A.Good next) signature = λ e. absurd (true≢false e)
+
+unsigned-head : (d : Configuration) (n : ℕ) (a : HeadAnswer) (signature id : List ℕ) → Unsigned (headAnswered d n a signature id)
+unfolding headAnswered
+unsigned-head d n (H.Refused k) signature id = unsigned-refuse k 0 d
+unsigned-head d n (H.Asks status size key idLength length) signature id = λ e. absurd (true≢false e)
+
+unsigned-push : (ring : Ring) (d : Configuration) (p : Phase) (x : ℕ) → Unsigned (pushAt ring p d x)
+unfolding pushAt pushHead headGathered pushData pushDataEnd pushFirstLine firstGathered pushNextLine nextGathered pushTrailer trailerGathered
+unsigned-push ring d (P.Head have) x =
+    unsigned-pick (leb (length (d .head)) have) _ _ (unsigned-refuse 3 0 d)
+    (unsigned-pick (isWholeHead (take (have + 1) (set (d .head) have x))) _ _ (unsigned-head _ (have + 1) _ _ _) tt)
+unsigned-push ring d (P.HeadAsked n) x = λ e. refl
+unsigned-push ring d (P.FirstLine have) x =
+    unsigned-pick (leb lineLimit have) _ _ (unsigned-refuse 6 0 d)
+    (unsigned-pick (isWholeLine (take (have + 1) (set (d .reader .line) have x))) _ _ (unsigned-first _ _) tt)
+unsigned-push ring d (P.Data have size) x = unsigned-pick (leb (length (d .block)) have) _ _ (unsigned-refuse 6 have d) tt
+unsigned-push ring d (P.DataEnd have size) x =
+    unsigned-pick (eqb have 0) _ _ tt (unsigned-pick (same (getD (d .reader .line) 0 0 ∷ x ∷ []) crlf) _ _ tt (unsigned-refuse 6 size d))
+unsigned-push ring d (P.NextLine have size) x =
+    unsigned-pick (leb lineLimit have) _ _ (unsigned-refuse 6 size d)
+    (unsigned-pick (isWholeLine (take (have + 1) (set (d .reader .line) have x))) _ _ (unsigned-next _ size _ _) tt)
+unsigned-push ring d (P.BlockAsked size next) x = λ e. refl
+unsigned-push ring d (P.Trailer have total) x =
+    let text = take (have + 1) (set (d .block) have x) in
+    unsigned-pick (leb (length (d .block)) have) _ _ (unsigned-refuse 6 have d)
+    (unsigned-pick (isWholeTrailer text) _ _ (unsigned-pick (isTrailer text) _ _ (λ e. refl) (unsigned-refuse 6 (have + 1) _)) tt)
+unsigned-push ring d (P.Closed total) x = λ e. refl
+unsigned-push ring d (P.Refused n) x = λ e. refl
+
+-- ---- a call
+
+abbrev UnsignedCall : R.Response → Type 0
+UnsignedCall c = isQuestion (c .word) ≡ false → c .signature ≡ noSignature
+
+call-pick : (t : Bool) (c e : R.Response) → UnsignedCall c → UnsignedCall e → UnsignedCall (pick t c e)
+call-pick true c e a b = a
+call-pick false c e a b = b
+
+unsigned-run : (ring : Ring) (d : Configuration) (t : ℕ) (xs : List ℕ) → UnsignedCall (fed (runOf (pushByte ring) d t xs))
+unfolding runOf
+unsigned-run ring d t [] = λ e. refl
+unsigned-run ring d t (x ∷ xs) = by (pushByte ring d x) (unsigned-push ring d (d .reader .phase) x) (λ d′. unsigned-run ring d′ (t + 1) xs)
+  where
+    by : (n : Next) → Unsigned n → ((d′ : Configuration) → UnsignedCall (fed (runOf (pushByte ring) d′ (t + 1) xs)))
+        → UnsignedCall (fed (follow n (t + 1) (λ d′. runOf (pushByte ring) d′ (t + 1) xs)))
+    by (on d′) u ih = ih d′
+    by (stop w signature d′) u ih = u
+
+given-unsigned : (n count : ℕ) (d : Configuration) → UnsignedCall (given 0 (refuse n count d))
+unfolding refuse
+given-unsigned n count d = λ e. refl
+
+unsigned-answer : (d : Configuration) (p : Phase) (good : Bool) → UnsignedCall (answerAt p d good)
+unfolding answerAt headAnswer blockAnswer
+unsigned-answer d (P.Head n) good = λ e. refl
+unsigned-answer d (P.HeadAsked n) good = call-pick good _ _ (λ e. refl) (given-unsigned 10 0 d)
+unsigned-answer d (P.FirstLine n) good = λ e. refl
+unsigned-answer d (P.Data have size) good = λ e. refl
+unsigned-answer d (P.DataEnd have size) good = λ e. refl
+unsigned-answer d (P.NextLine have size) good = λ e. refl
+unsigned-answer d (P.BlockAsked size next) good = call-pick good _ _ (λ e. refl) (given-unsigned 10 size d)
+unsigned-answer d (P.Trailer have total) good = λ e. refl
+unsigned-answer d (P.Closed total) good = λ e. refl
+unsigned-answer d (P.Refused n) good = λ e. refl
+
+-- NO OTHER WORD comes with anything but zeros.
+pub unsigned-call : (keys : KeyRing) (d : Configuration) (r : Request) → isQuestion (called keys d r .word) ≡ false → called keys d r .signature ≡ noSignature
+unfolding feedOf takenFrom answerOf endOf
+unsigned-call keys d (feed piece) =
+    call-pick (fits d && leb (keys .count) ringLimit) _ _
+    (call-pick (isReading (d .reader .phase)) _ _ (unsigned-run (ringOf keys) (recalled d) 0 piece) (λ e. refl))
+    (λ e. refl)
+unsigned-call keys d (answer good) = call-pick (fits d) _ _ (unsigned-answer d (d .reader .phase) good) (λ e. refl)
+unsigned-call keys d end =
+    call-pick (fits d) _ _ (call-pick (isReading (d .reader .phase)) _ _ (given-unsigned 11 (pending (d .reader .phase)) (recalled d)) (λ e. refl)) (λ e. refl)

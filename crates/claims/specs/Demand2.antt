@@ -1,0 +1,47 @@
+-- DEMAND 2, as it is claimed. It does what the published rules say: a block comes out exactly when every rule up to it holds and each
+-- answer so far was yes, and an honest stream comes out whole. Assumes nothing.
+--
+-- What keeps the rules is said in crate exactness, from the paper and not from the reading: `ReleasesBlock` (a beginning of the stream
+-- with a good head, good blocks and good lines, whose last block is this one) and `Honest` (a show as its sender may write it down).
+-- The same theorems about the plain reading alone are `block-exact`, `head-exact` and `show-complete` there.
+use mathlib.Core.Path.{_≡_}
+use mathlib.Core.Bool.{Bool, true}
+use mathlib.Core.List.{List, _++_}
+use mathlib.Core.Logic.{_↔_}
+use Prim.Native.Nat.{ℕ, suc}
+use lib.ListN.{length, replicate}
+use Rattle.ring.specs.Keys.{ringOf}
+use Rattle.ring.specs.declared.KeyRing.{KeyRing}
+use Rattle.sections.specs.Reading.{message}
+use Rattle.sections.specs.Resuming.{events}
+use Rattle.stream.specs.Events.{block}
+use Rattle.agreement.specs.Plain.{told, toldLog}
+use Rattle.agreement.specs.Run.{Invocation}
+use Rattle.exactness.specs.Releases.{ReleasesBlock}
+use Rattle.exactness.specs.ShowEvents.{showEvents}
+use Rattle.exactness.specs.Shows.{WholeShow, streamOf, bodyOf, Honest}
+use Rattle.exactness.specs.Telling.{Stands}
+use Rattle.claims.specs.Body.{bodyTold}
+use Rattle.claims.specs.Runs.{words, taken, answers}
+
+module _ (keys : KeyRing) (h b q : List ℕ) (ks : List Invocation) where
+  -- EXACTLY THEN: a run shows a block, at an offset of the body and with its bytes as they are handed out, at a place of the stream,
+  -- exactly when the bytes that it took begin as the rules ask up to that place, with this block as the last, and the answers that
+  -- it heard, up to and with the one about this block, are all yes.
+  abbrev pub BlockComesOut : Type 0
+  BlockComesOut =
+      (at o : ℕ) (bytes : List ℕ)
+      → Stands (at, message (told (block o bytes))) (events (words keys h b q ks))
+      ↔ ReleasesBlock (ringOf keys) (taken keys h b q ks) (answers keys h b q ks) at o bytes
+
+  -- AN HONEST SHOW, however its stream is cut, once it is taken and each question was answered with yes: the events are those computed
+  -- from the show, up to closed, and the blocks handed out, joined, are its body.
+  pub record ComesOutWhole (s : WholeShow) : Type 0 where
+    pub all-events : events (words keys h b q ks) ≡ toldLog (showEvents (ringOf keys) s)
+    pub whole-body : bodyTold (events (words keys h b q ks)) ≡ bodyOf (s .chunks)
+
+  abbrev pub HonestComesOut : Type 0
+  HonestComesOut =
+      (s : WholeShow) (more : List Bool) → Honest (ringOf keys) s
+      → taken keys h b q ks ≡ streamOf s → answers keys h b q ks ≡ replicate (suc (length (s .chunks))) true ++ more
+      → ComesOutWhole s
