@@ -9,3 +9,4 @@ pub mod LentRing
 pub mod Alongside
 pub mod Reached
 pub mod OnBytes
+pub mod Left

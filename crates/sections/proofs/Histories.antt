@@ -14,11 +14,11 @@ use Rattle.sections.specs.Resuming.{heard, bytesBy, answerBy, endBy, ent
 use Rattle.sections.proofs.Invariant.{Inv, at-start, inv-read}
 use Rattle.sections.proofs.Agreement.{size, Adds, nothing, bytes, reply, close, turn-agrees}
 
-or-false : (t : Bool) → t || false ≡ t
+pub or-false : (t : Bool) → t || false ≡ t
 or-false true = refl
 or-false false = refl
 
-or-assoc : (t u v : Bool) → (t || u) || v ≡ t || (u || v)
+pub or-assoc : (t u v : Bool) → (t || u) || v ≡ t || (u || v)
 or-assoc true u v = refl
 or-assoc false u v = refl
 

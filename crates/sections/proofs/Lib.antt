@@ -11,3 +11,7 @@ pub mod Pieces
 pub mod Growing
 pub mod Toy
 pub mod Example
+pub mod Trails
+pub mod Marks
+pub mod Marking
+pub mod Leavings

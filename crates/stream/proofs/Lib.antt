@@ -10,3 +10,4 @@ pub mod MessageLaws
 pub mod Sound
 pub mod SoundJudge
 pub mod SoundReading
+pub mod BufferCases

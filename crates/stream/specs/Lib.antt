@@ -13,3 +13,4 @@ pub mod Head
 pub mod Blocks
 pub mod Trailer
 pub mod Stream
+pub mod Buffers

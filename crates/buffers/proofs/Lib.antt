@@ -1,0 +1,9 @@
+pub mod Fronts
+pub mod Leaves
+pub mod BodyBytes
+pub mod LineBytes
+pub mod HeadBytes
+pub mod Pieces
+pub mod Requests
+pub mod Lists
+pub mod HeadKept
