@@ -9,4 +9,5 @@ pub mod LentRing
 pub mod Alongside
 pub mod Reached
 pub mod OnBytes
+pub mod Closed
 pub mod Left

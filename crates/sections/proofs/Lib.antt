@@ -5,6 +5,8 @@ pub mod Invariant
 pub mod Feeding
 pub mod Agreement
 pub mod Histories
+pub mod Afterwards
+pub mod Asked
 pub mod Onward
 pub mod Cutting
 pub mod Pieces

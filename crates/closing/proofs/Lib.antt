@@ -1,0 +1,5 @@
+pub mod Lines
+pub mod Parts
+pub mod Rebuilding
+pub mod Closing
+pub mod Runs

@@ -1,0 +1,44 @@
+-- The show that is read off a good beginning is written as just this beginning, part by part. Assumes nothing.
+use mathlib.Core.List.{List, [], _∷_, _++_}
+use mathlib.Core.Path.{_≡_, refl, ap, _∙_}
+use mathlib.Core.Bool.{true}
+use Prim.Native.Nat.{ℕ}
+use Rattle.stream.specs.Blocks.{sizeText, isChunkLine, lineSignature}
+use Rattle.stream.specs.Ring.{Ring}
+use Rattle.exactness.specs.Beginning.{Beginning, opening, onward}
+use Rattle.exactness.specs.Good.{Good, opens, goes-on}
+use Rattle.exactness.specs.Shows.{Chunk, chunkLine, signed, nextDigits, continued}
+use Rattle.closing.specs.Rebuilt.{headText, lastLine, chunkBetween, chunksIn}
+use Rattle.closing.proofs.Lines.{bare-again, signed-again}
+
+-- a chunk more, at the end
+next-more : (cs : List Chunk) (c : Chunk) (zeros : List ℕ) → nextDigits (cs ++ c ∷ []) zeros ≡ nextDigits cs (c .digits)
+next-more [] c zeros = refl
+next-more (d ∷ cs) c zeros = refl
+
+continued-more : (w : Beginning) (cs : List Chunk) (c : Chunk) (zeros : List ℕ)
+    → continued w (cs ++ c ∷ []) zeros ≡ onward (continued w cs (c .digits)) (c .block) (chunkLine zeros (signed (c .signature)))
+unfolding continued
+continued-more w [] c zeros = refl
+continued-more w (d ∷ cs) c zeros =
+    rw (← next-more cs c zeros) (continued-more (onward w (d .block) (chunkLine (nextDigits (cs ++ c ∷ []) zeros) (signed (d .signature)))) cs c zeros)
+
+-- what the show is written as
+abbrev again : Beginning → Beginning
+again w = continued (opening (headText w) (chunkLine (nextDigits (chunksIn w) (sizeText (lastLine w))) [])) (chunksIn w) (sizeText (lastLine w))
+
+-- each line of a good beginning is a chunk line
+pub last-good : (ring : Ring) (w : Beginning) → Good ring w → isChunkLine (lastLine w) ≡ true
+unfolding lastLine
+last-good ring w (opens h l) = l .line .text
+last-good ring w (goes-on g a n) = n .line .text
+
+pub parts-again : (ring : Ring) (w : Beginning) → Good ring w → again w ≡ w
+unfolding headText lastLine chunksIn continued
+parts-again ring w (opens {h = h} {l = l} g k) = ap (opening h) (bare-again l (k .line .text) (k .unsigned))
+parts-again ring w (goes-on {w = v} {b = b} {l = l} g a n) =
+    let c : Chunk = chunkBetween (lastLine v) b l in
+    rw (next-more (chunksIn v) c (sizeText l))
+    (continued-more (opening (headText v) (chunkLine (nextDigits (chunksIn v) (sizeText (lastLine v))) [])) (chunksIn v) c (sizeText l)
+    ∙ ap (λ (k : Beginning). onward k b (chunkLine (sizeText l) (signed (lineSignature l)))) (parts-again ring v g)
+    ∙ ap (onward v b) (signed-again l (n .line .text) (n .signed)))

@@ -1,0 +1,102 @@
+-- The show that is read off a good beginning and a good trailer is honest, and these are its stream. Assumes nothing.
+use mathlib.Core.List.{List, [], _∷_, _++_}
+use mathlib.Core.Path.{_≡_, refl, sym, ap, _∙_}
+use Prim.Native.Nat.{ℕ, _≤_}
+use native.Mathlib.Omega.{arith}
+use lib.ListN.{length}
+use Rattle.stream.specs.Blocks.{sizeText, chunkSize}
+use Rattle.stream.specs.Head.{headOf}
+use Rattle.stream.specs.Limits.{bodyLimit}
+use Rattle.stream.specs.Numbers.{hexValue}
+use Rattle.stream.specs.Ring.{Ring}
+use Rattle.exactness.specs.Beginning.{Beginning, opening, onward, written, headIn, size, announces, body}
+use Rattle.exactness.specs.Good.{GoodHead, Good, opens, goes-on, GoodTrailer}
+use Rattle.exactness.specs.Shows.{Chunk, WholeShow, bodyOf, Writes, HonestChunk, HonestChunks, Sized, beginningOf}
+use Rattle.exactness.proofs.HonestShows.{show-written, show-body}
+use Rattle.closing.specs.Closing.{IsShowOf}
+use Rattle.closing.specs.Rebuilt.{headText, lastLine, chunkBetween, chunksIn, showFrom}
+use Rattle.closing.proofs.Lines.{signature-bytes, signature-length, size-well}
+use Rattle.closing.proofs.Parts.{last-good, parts-again}
+
+head-good : (ring : Ring) (w : Beginning) → Good ring w → GoodHead ring (headText w) × (headIn w ≡ headOf (headText w))
+unfolding headText headIn
+head-good ring w (opens h l) = (h, refl)
+head-good ring w (goes-on {w = v} g a n) = head-good ring v g
+
+-- the size in its last line
+last-writes : (ring : Ring) (w : Beginning) → Good ring w → Writes (sizeText (lastLine w)) (announces w)
+unfolding lastLine announces chunkSize
+last-writes ring w g = record { text = size-well (lastLine w) (last-good ring w g); value = value w }
+  where
+    value : (w : Beginning) → hexValue (sizeText (lastLine w)) ≡ announces w
+    value (opening h l) = refl
+    value (onward w b l) = refl
+
+honest-more : (cs : List Chunk) (c : Chunk) → HonestChunks cs → HonestChunk c → HonestChunks (cs ++ c ∷ [])
+honest-more [] c h k = (k, tt)
+honest-more (d ∷ cs) c h k = (h .0, honest-more cs c (h .1) k)
+
+chunks-honest : (ring : Ring) (w : Beginning) → Good ring w → HonestChunks (chunksIn w)
+unfolding chunksIn
+chunks-honest ring w (opens h l) = tt
+chunks-honest ring w (goes-on {w = v} {b = b} {l = l} g a n) =
+    honest-more (chunksIn v) (chunkBetween (lastLine v) b l) (chunks-honest ring v g)
+    (record { some = a .some; size = rw (a .just) (last-writes ring v g); bytes = signature-bytes l; sixty-four = signature-length l })
+
+-- every block has N bytes
+abbrev Full : ℕ → List Chunk → Type 0
+Full N [] = Unit {0}
+Full N (c ∷ cs) = (length (c .block) ≡ N) × Full N cs
+
+full-more : (N : ℕ) (cs : List Chunk) (c : Chunk) → Full N cs → length (c .block) ≡ N → Full N (cs ++ c ∷ [])
+full-more N [] c f e = (e, tt)
+full-more N (d ∷ cs) c f e = (f .0, full-more N cs c (f .1) e)
+
+sized-more : (N : ℕ) (cs : List Chunk) (c : Chunk) → Full N cs → length (c .block) ≤ N → Sized N (cs ++ c ∷ [])
+sized-more N [] c f m = m
+sized-more N (d ∷ []) c f m = (f .0, m)
+sized-more N (d ∷ e ∷ cs) c f m = (f .0, sized-more N (e ∷ cs) c (f .1) m)
+
+-- where a further block is announced, all so far are full; and it has at most N bytes
+record Sizes (w : Beginning) : Type 0 where
+  sized : Sized (size w) (chunksIn w)
+  full : 1 ≤ announces w → Full (size w) (chunksIn w)
+  most : announces w ≤ size w
+  total : length (body w) ≤ bodyLimit
+
+sizes : (ring : Ring) (w : Beginning) → Good ring w → Sizes w
+unfolding chunksIn announces headIn body
+sizes ring w (opens h l) = record { sized = tt; full = λ x. tt; most = l .line .most; total = omega arith }
+sizes ring w (goes-on {w = v} {b = b} {l = l} g a n) =
+    let s = sizes ring v g in
+    let c : Chunk = chunkBetween (lastLine v) b l in
+    let f = s .full (omega (arith, a .some, a .just)) in
+    record {
+      sized = sized-more (size v) (chunksIn v) c f (omega (arith, a .just, s .most));
+      full = λ x. full-more (size v) (chunksIn v) c f (n .full x);
+      most = n .line .most;
+      total = omega (arith, n .line .total);
+    }
+
+-- A GOOD BEGINNING that ends in a 0 line, and a good trailer, are the stream of an honest show.
+pub is-show : (ring : Ring) (w : Beginning) (t : List ℕ) → Good ring w → announces w ≡ 0 → GoodTrailer t → IsShowOf ring w t (showFrom w t)
+is-show ring w t g z k =
+    let s : WholeShow = showFrom w t in
+    let p : beginningOf s ≡ w = parts-again ring w g in
+    let b : bodyOf (s .chunks) ≡ body w = sym (show-body s) ∙ ap body p in
+    let h = head-good ring w g in
+    let m = sizes ring w g in
+    record {
+      honest =
+          record {
+            head = h .0;
+            chunks = chunks-honest ring w g;
+            sized = rw (h .1) at (m .sized);
+            total = rw b (m .total);
+            zeros = rw z at (last-writes ring w g);
+            trailer = k;
+          };
+      parts = p;
+      stream = sym (show-written s) ∙ ap (λ (x : Beginning). written x ++ t) p;
+      whole-body = b;
+    }
