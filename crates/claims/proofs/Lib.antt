@@ -9,5 +9,13 @@ pub mod LentRing
 pub mod Alongside
 pub mod Reached
 pub mod OnBytes
+pub mod SignedLines
+pub mod Places
+pub mod Turns
+pub mod Known
+pub mod Asking
+pub mod Handed
+pub mod CallNumbers
+pub mod Numbers
 pub mod Closed
 pub mod Left

@@ -6,6 +6,9 @@ pub mod Ordinary
 pub mod Demand1
 pub mod Demand2
 pub mod Demand3
+pub mod Numbers
+pub mod SignedValues
+pub mod Handed
 pub mod Reached
 pub mod Closed
 pub mod Left

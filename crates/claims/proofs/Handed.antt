@@ -1,0 +1,103 @@
+-- NOTHING ELSE COMES OUT: what is handed out after any call, and which question stood before it. Assumes nothing.
+use mathlib.Core.Path.{_≡_, refl, ap, subst, _∙_}
+use mathlib.Core.Bool.{Bool, true, false}
+use mathlib.Core.List.{List, [], _∷_, _++_}
+use Prim.Native.Nat.{ℕ}
+use lib.Dec.{leb}
+use lib.ListN.{length}
+use Rattle.octets.specs.Choice.{pick}
+use Rattle.ring.specs.Keys.{ringOf}
+use Rattle.ring.specs.declared.KeyRing.{KeyRing}
+use Rattle.sections.specs.Reading.{message}
+use Rattle.sections.specs.Resuming.{Begins, events}
+use Rattle.stream.specs.Events.{Release, headAccepted, block}
+use Rattle.stream.specs.Fields.{valueOf}
+use Rattle.stream.specs.Head.{headOf, signedOf}
+use Rattle.stream.specs.Limits.{blockLimit}
+use Rattle.stream.specs.Lines.{Field}
+use Rattle.handing.specs.Released.{blockPart}
+use Rattle.handing.proofs.ValueLaws.{handed-none}
+use Rattle.state.specs.Configuration.{Configuration, freshReader}
+use Rattle.agreement.specs.Observation.{Observation, Trace}
+use Rattle.agreement.specs.Observation as S
+use Rattle.agreement.specs.Plain.{toldLog}
+use Rattle.agreement.specs.Run.{Invocation, runCall, observed, runFrom, run, plainCalls}
+use Rattle.exactness.specs.Releases.{AcceptsHead}
+use Rattle.exactness.specs.Telling.{headTells}
+use Rattle.exactness.proofs.Exactness.{head-exact}
+use Rattle.claims.specs.Handed.{NothingAtFirst, Last, BlockOut, no-block, a-block, ValuesOut, no-value, of-head, NothingElse}
+use Rattle.claims.specs.Runs.{words, taken, answers, ended}
+use Rattle.claims.specs.SignedValues.{SignedValues}
+use Rattle.claims.proofs.Asking.{log, head-first, block-question}
+use Rattle.claims.proofs.Demand2.{block-comes-out}
+use Rattle.claims.proofs.Demand3.{demand-3}
+use Rattle.claims.proofs.Known.{Known, BlockKnown, ValuesKnown, seen-known}
+use Rattle.claims.proofs.Known as K
+use Rattle.claims.proofs.SignedLines.{values-signed}
+use Rattle.claims.proofs.Untold.{untold, head-from}
+
+pub nothing-at-first : (h b q : List ℕ) → NothingAtFirst h b q
+unfolding freshReader blockPart
+nothing-at-first h b q = record { no-block = none (leb blockLimit (length b)); no-value = λ name. handed-none h name }
+  where
+    none : (t : Bool) → _≡_ {A = List ℕ} (pick t [] []) []
+    none true = refl
+    none false = refl
+
+run-longer : (keys : KeyRing) (d : Configuration) (ks more : List Invocation) → Begins (runFrom keys d ks) (runFrom keys d (ks ++ more))
+unfolding runFrom
+run-longer keys d [] more = record { rest = runFrom keys d more; joined = refl }
+run-longer keys d (k ∷ ks) more =
+    let r = run-longer keys (runCall keys d k .after) ks more in
+    record { rest = r .rest; joined = ap (λ (t : Trace). observed (runCall keys d k) ∷ t) (r .joined) }
+
+abbrev fieldsIn : Release → List Field
+fieldsIn (headAccepted status fields) = fields
+fieldsIn (block o b) = []
+
+module _ (keys : KeyRing) (h b q : List ℕ) (ks : List Invocation) where
+  handed-known : (o : Observation) → Last o (run keys h b q ks) → Known (events (words keys h b q ks)) (o .block) (o .value)
+  handed-known o s =
+      let e = demand-3 keys h b q ks .each-call in
+      rw e (seen-known (ringOf keys) (plainCalls keys h b q ks) o (record { earlier = s .earlier; joined = s .joined ∙ e }))
+
+  block-out : (bytes : List ℕ) → BlockKnown (events (words keys h b q ks)) bytes → BlockOut keys h b q ks bytes
+  block-out bytes (K.no-block e) = no-block e
+  block-out bytes (K.block-told place offset s) =
+      a-block place offset (block-comes-out keys h b q ks place offset bytes .0 (record { before = s .earlier; after = []; joined = s .joined })) s
+
+  accepted-values : (place status : ℕ) (fields : List Field) (a : AcceptsHead (ringOf keys) (taken keys h b q ks) (answers keys h b q ks) place status fields)
+      → SignedValues (headOf (a .head)) (λ name. valueOf name fields)
+  unfolding headTells
+  accepted-values place status fields a =
+      let e : signedOf (headOf (a .head)) ≡ fields = ap fieldsIn (a .says) in
+      subst (λ (fs : List Field). SignedValues (headOf (a .head)) (λ name. valueOf name fs)) e (values-signed (headOf (a .head)))
+
+  values-out : (value : List ℕ → List ℕ) → ValuesKnown (events (words keys h b q ks)) value → ValuesOut keys h b q ks value
+  unfolding toldLog
+  values-out value (K.no-value e) = no-value e
+  values-out value (K.values-told place status s) =
+      let u = untold (s .before) (s .after) place (message (S.headAccepted status value)) (log keys h b q ks) (s .joined ∙ demand-3 keys h b q ks .all-taken) in
+      let f = head-from (u .it) status value (u .same-event) in
+      let a = head-exact (ringOf keys) (taken keys h b q ks) (answers keys h b q ks) (ended keys h b q ks) place status (f .fields) .0
+      (record { before = u .before; after = u .after; joined = rw (← f .head) (u .joined) }) in
+      of-head
+      (record {
+        place = place;
+        status = status;
+        fields = f .fields;
+        accepted = a;
+        signed = subst (SignedValues (headOf (a .head))) (f .values) (accepted-values place status (f .fields) a);
+        asked = head-first keys h b q ks place status (f .fields) a;
+      })
+
+  -- WHAT IS HANDED OUT after the last of any calls, and the question before each block.
+  pub nothing-else : NothingElse keys h b q ks
+  unfolding run
+  nothing-else =
+      record {
+        block-handed = λ o s. block-out (o .block) (handed-known o s .block);
+        values-handed = λ o s. values-out (o .value) (handed-known o s .values);
+        question-before = block-question keys h b q ks;
+        later-calls = λ more. run-longer keys _ ks more;
+      }
