@@ -40,6 +40,10 @@ static uint64_t first_number(void) {
     return ouinet_reader_number(lent()->result + OUINET_READER_RESULT_FIRST);
 }
 
+static uint64_t second_number(void) {
+    return ouinet_reader_number(lent()->result + OUINET_READER_RESULT_SECOND);
+}
+
 /* Whether the last call was refused with this number. */
 static int is_refused(uint8_t word, uint64_t refusal) {
     return word == OUINET_READER_REFUSED && first_number() == refusal;
@@ -109,7 +113,7 @@ static void short_feed(const struct plan *plan, const uint8_t *bytes, size_t len
 static void tell(struct told *told, uint8_t word) {
     static const uint8_t uri[] = "X-Ouinet-URI";
     const struct lent *l = lent();
-    uint64_t first = first_number(), second = ouinet_reader_number(l->result + OUINET_READER_RESULT_SECOND);
+    uint64_t first = first_number(), second = second_number();
     uint8_t value[OUINET_READER_HEAD_SIZE];
     size_t block = ouinet_reader_block(l->state, OUINET_READER_STATE_SIZE, l->block, OUINET_READER_BLOCK_SIZE);
     must(ouinet_reader_number(l->result + OUINET_READER_RESULT_WORD) == word, "the result has the word");
@@ -187,6 +191,8 @@ static void forged(const struct plan *plan, const uint8_t *bytes, size_t size) {
         must(ouinet_reader_block(l->state, OUINET_READER_STATE_SIZE, l->block, OUINET_READER_BLOCK_SIZE) <=
                  OUINET_READER_BLOCK_SIZE,
              "a block lies within its buffer");
+        must(word != OUINET_READER_QUESTION || first_number() <= OUINET_READER_QUESTION_SIZE, "so does a question");
+        must(word != OUINET_READER_BLOCK || second_number() <= OUINET_READER_BLOCK_SIZE, "and the block that a word names");
         feature_of_word(word, first_number());
         bytes += taken;
         size -= taken;

@@ -17,7 +17,8 @@
  * A buffer is passed as the address of its first byte and its length. An address is never NULL, not even where the length is 0, and
  * so many bytes are there. A buffer that is not `const` overlaps no other one of the same call. That is all that is asked: any
  * bytes may stand in any buffer, the state included, and a buffer that is too short is answered and not overrun. Several threads
- * may call at once, each with buffers of its own. Bytes that a buffer has beyond what is named here are left as they are.
+ * may call at once, each with buffers of its own. Bytes that a buffer has beyond the size that is named for it are left as they are, with
+ * every state; those of head, block and question are not read either.
  * A call that is refused with 1 or 2 leaves the same state; bytes that no call has written, and that say the same state in another way,
  * may come back in the usual one.
  *
@@ -121,7 +122,17 @@ extern "C" {
  *     200  line            128 bytes: of the chunk line under way
  *     328  released        length of the block that is handed out, else 0
  *
- * A state that no stream has led to is as safe as any other, but what it hands out proves nothing.
+ * A state that no stream has led to is as safe as any other. With every state, a forged one too:
+ *
+ *     the count taken is at most the length of the piece, and 0 from answer and end;
+ *     the length of a question in a result is at most OUINET_READER_QUESTION_SIZE, and at most the question buffer's;
+ *     the length of a block in a result, and what ouinet_reader_block gives, is at most OUINET_READER_BLOCK_SIZE, and at most the
+ *     block buffer's;
+ *     what ouinet_reader_value gives is at most OUINET_READER_HEAD_SIZE, and at most the head buffer's length;
+ *     no byte of these buffers beyond the three sizes is read or written.
+ *
+ * But what such a state hands out proves nothing, and the number of a key's record is what the state says: hold it against the ring before
+ * it is used as an index.
  */
 
 /* ---- calls */

@@ -1,7 +1,8 @@
 /*
  * include/ouinet_reader.h and the library behind it, from C: the example stream of crates/ouiread/data goes through in pieces of one
  * size, and what is said must be the lines of crates/ouiread/stdout; then the sizes that the header names, each beside one that is one
- * byte short. tests/header.sh builds and runs it. Its last line is 'N passed, M failed'.
+ * byte short; then forged states, in buffers that are longer than named and marked beyond. tests/header.sh builds and runs it. Its last
+ * line is 'N passed, M failed'.
  */
 #include "ouinet_reader.h"
 
@@ -201,8 +202,108 @@ static void measure(void) {
     expect("nor of too short a buffer", ouinet_reader_block(state, STATE, block, B - 1) == 0 && ouinet_reader_block(state, STATE - 1, block, B) == 0);
 }
 
+/* ---- forged states: the working buffers have MORE bytes beyond the sizes that the header names, all of them marked */
+
+enum { MORE = 64 };
+
+static uint8_t long_head[OUINET_READER_HEAD_SIZE + MORE], long_block[OUINET_READER_BLOCK_SIZE + MORE], long_question[OUINET_READER_QUESTION_SIZE + MORE];
+
+static int all(const uint8_t *at, size_t length, uint8_t byte) {
+    while (length > 0 && at[length - 1] == byte)
+        length--;
+    return length == 0;
+}
+
+static int beyond_is(uint8_t mark) {
+    return all(long_head + OUINET_READER_HEAD_SIZE, MORE, mark) && all(long_block + OUINET_READER_BLOCK_SIZE, MORE, mark) &&
+           all(long_question + OUINET_READER_QUESTION_SIZE, MORE, mark);
+}
+
+/* A state with a phase and its counts, all else zero; buffers of the byte `b`, marked beyond. */
+static void forge(uint64_t phase, uint64_t first, uint64_t second, uint8_t mark) {
+    memset(state, 0, STATE);
+    ouinet_reader_put_number(state, phase);
+    ouinet_reader_put_number(state + 8, first);
+    ouinet_reader_put_number(state + 16, second);
+    memset(long_head, mark, sizeof long_head);
+    memset(long_block, mark, sizeof long_block);
+    memset(long_question, mark, sizeof long_question);
+    memset(long_head, 'b', OUINET_READER_HEAD_SIZE);
+    memset(long_block, 'b', OUINET_READER_BLOCK_SIZE);
+    memset(long_question, 'b', OUINET_READER_QUESTION_SIZE);
+}
+
+static uint8_t long_feed(const char *piece) {
+    return ouinet_reader_feed(state, STATE, long_head, sizeof long_head, long_block, sizeof long_block, long_question, sizeof long_question, ring,
+                              RECORD, (const uint8_t *)piece, strlen(piece), result, RESULT);
+}
+
+static uint8_t long_answer(uint8_t good) {
+    return ouinet_reader_answer(state, STATE, long_head, sizeof long_head, long_block, sizeof long_block, long_question, sizeof long_question, good,
+                                result, RESULT);
+}
+
+static uint8_t long_end(void) {
+    return ouinet_reader_end(state, STATE, long_head, sizeof long_head, long_block, sizeof long_block, long_question, sizeof long_question, result, RESULT);
+}
+
+static void defy_forged_calls(uint8_t mark) {
+    const uint64_t largest = UINT64_MAX;
+    forge(6, largest, 0, mark);
+    expect("a block of 2^64 - 1 bytes, answered yes, is a block", long_answer(1) == OUINET_READER_BLOCK);
+    expect("of no more than a block may have", number(result + OUINET_READER_RESULT_SECOND) == OUINET_READER_BLOCK_SIZE);
+    expect("nor is more handed out", ouinet_reader_block(state, STATE, long_block, sizeof long_block) == OUINET_READER_BLOCK_SIZE);
+    expect("nothing beyond is written", beyond_is(mark));
+    forge(6, largest, 0, mark);
+    expect("answered no, it is refused", is_refused(long_answer(0), OUINET_READER_BAD_SIGNATURE));
+    expect("what the size names is zero, and no byte beyond", all(long_block, OUINET_READER_BLOCK_SIZE, 0) && beyond_is(mark));
+    forge(0, OUINET_READER_HEAD_SIZE, 0, mark);
+    expect("a head with all its room taken takes no byte more", is_refused(long_feed("x"), OUINET_READER_BAD_HEAD));
+    expect("and writes none beyond", beyond_is(mark) && all(long_head, OUINET_READER_HEAD_SIZE, 'b'));
+    forge(3, OUINET_READER_BLOCK_SIZE + 8, largest, mark);
+    expect("data past its room is refused", is_refused(long_feed("x"), OUINET_READER_BAD_FRAME));
+    expect("and clears none beyond", all(long_block, OUINET_READER_BLOCK_SIZE, 0) && beyond_is(mark));
+    forge(3, OUINET_READER_BLOCK_SIZE + 8, largest, mark);
+    expect("an end there is refusal 11", is_refused(long_end(), OUINET_READER_UNFINISHED));
+    expect("and clears none beyond, either", all(long_block, OUINET_READER_BLOCK_SIZE, 0) && beyond_is(mark));
+    forge(7, OUINET_READER_BLOCK_SIZE, 0, mark);
+    expect("nor does a trailer go beyond", is_refused(long_feed("x"), OUINET_READER_BAD_FRAME) && beyond_is(mark));
+}
+
+/* The question after a forged block that is longer than its room: it is within its own, and says nothing of the bytes beyond. */
+static void ask_of_forged_block(uint8_t mark, char *message) {
+    char line[128] = "0;ouisig=";
+    size_t length;
+    memset(line + strlen(line), 'A', 86);
+    strcat(line, "==\r\n");
+    forge(5, 0, OUINET_READER_BLOCK_SIZE + 8, mark);
+    ouinet_reader_put_number(state + 40, OUINET_READER_BLOCK_SIZE + 8);
+    expect("the line after a forged block asks", long_feed(line) == OUINET_READER_QUESTION);
+    length = (size_t)number(result + OUINET_READER_RESULT_FIRST);
+    expect("a message within its room", length > 0 && length < 128 && beyond_is(mark));
+    memcpy(message, long_question, length < 128 ? length : 0);
+}
+
+/* What is handed out of a forged count: `accepted` and `released`, with the head and the block of the example where they lie. */
+static void defy_forged_parts(void) {
+    const char *type = "content-type";
+    const uint64_t counts[] = {OUINET_READER_HEAD_SIZE + 1, OUINET_READER_HEAD_SIZE + MORE, OUINET_READER_BLOCK_SIZE + 1, UINT64_MAX};
+    uint8_t value[64];
+    size_t i, length;
+    memset(long_head, '\n', sizeof long_head);
+    memcpy(long_head, head, sizeof head);
+    length = ouinet_reader_value(state, STATE, long_head, sizeof long_head, (const uint8_t *)type, strlen(type), value, sizeof value);
+    expect("a longer head buffer hands out the same", length > 0 && length == ouinet_reader_value(state, STATE, head, sizeof head, (const uint8_t *)type, strlen(type), value, sizeof value));
+    for (i = 0; i < sizeof counts / sizeof *counts; i++) {
+        ouinet_reader_put_number(state + 24, counts[i]);
+        ouinet_reader_put_number(state + 328, counts[i]);
+        expect("no value of a head past its room", ouinet_reader_value(state, STATE, long_head, sizeof long_head, (const uint8_t *)type, strlen(type), value, sizeof value) == 0);
+        expect("no block past its room", ouinet_reader_block(state, STATE, long_block, sizeof long_block) == (counts[i] < OUINET_READER_BLOCK_SIZE ? counts[i] : OUINET_READER_BLOCK_SIZE));
+    }
+}
+
 int main(int count, char **arguments) {
-    char stream[4096], keys[4096], answers[4096], expected[4096], said[4096], body[4096];
+    char stream[4096], keys[4096], answers[4096], expected[4096], said[4096], body[4096], one[128] = {0}, other[128] = {0};
     size_t length;
     if (count != 6) {
         fprintf(stderr, "usage: header STREAM RING ANSWERS EXPECTED PIECE\n");
@@ -217,8 +318,13 @@ int main(int count, char **arguments) {
     expect("the nine lines", !strcmp(said, expected));
     expect("the body", !strcmp(body, "Hello world!"));
     look_up_values();
+    defy_forged_parts();
     look_inside((const uint8_t *)stream, length);
     measure();
+    defy_forged_calls(0xa5);
+    ask_of_forged_block(0xa5, one);
+    ask_of_forged_block(0x5a, other);
+    expect("whatever stands beyond, it is the same", !memcmp(one, other, sizeof one));
     printf("%d passed, %d failed\n", passed, failed);
     return failed != 0;
 }

@@ -1,6 +1,6 @@
 #!/usr/bin/env bash
 # include/ouinet_reader.h as C and as C++, in an old and in a new edition of each; then the program tests/header.c over the proved
-# library, with the example stream in pieces of one byte and of 4,096.
+# library, with the example stream in pieces of one byte and of 4,096, and with forged states.
 set -uo pipefail
 cd "$(dirname "$0")/.."
 . scripts/counting

@@ -15,6 +15,7 @@ use Rattle.sections.specs.Machine.{running, asked, finished, Turn, respond}
 use Rattle.stream.specs.Events.{Question, Release, headAccepted, block, LastWord}
 use Rattle.stream.specs.Events as E
 use Rattle.stream.specs.Head.{headOf, statusDigits, signedOf}
+use Rattle.stream.specs.Limits.{blockLimit}
 use Rattle.stream.specs.Lines.{Field}
 use Rattle.stream.specs.Numbers.{decimalValue}
 use Rattle.stream.specs.Ring.{Ring}
@@ -156,10 +157,11 @@ module _ (ring : Ring) (h : Handed) where
     block-answer-follows : (good : Bool) → CallFollows ring h (answer good) (blockAnswer size next d good) (respond (rules ring) (asked (F.blockGrant ring d s p next b)) (answer good))
     unfolding blockAnswer respond rules wordSeen releasing
     block-answer-follows true =
+        let m : min size blockLimit ≡ size = omega (arith, a .bytes .count, a .sound .most, a .sound .show .most) in
         let o : Line.offsetNow (d .reader) .0 ≡ blockOffset s p = offset-now (d .reader) s p (length b) (a .keeps) (a .blocks) (a .sound) in
         let n : size ≡ length b = sym (a .bytes .count) in
         let t : blockPart (d .block) size ≡ b = part-is (d .block) size (lent .block) ∙ a .bytes .bytes in
-        follows _ (event (message (block (blockOffset s p) b))) 0 _ released-holds (λ i. event (message (Shown.block (o i) (n i) (t i)))) refl
+        rw m (follows _ (event (message (block (blockOffset s p) b))) 0 _ released-holds (λ i. event (message (Shown.block (o i) (n i) (t i)))) refl)
     block-answer-follows false = refused-follows (answer false) 10 size d (omega arith) lent (a .taken) none
 
   -- ---- any answer

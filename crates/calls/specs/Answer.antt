@@ -4,6 +4,7 @@ use Prim.Native.Nat.{ℕ, _+_, min}
 use Rattle.blocks.specs.Place.{largest}
 use Rattle.blocks.specs.declared.offsets.BlockNumber.{BlockNumber}
 use Rattle.octets.specs.Choice.{pick}
+use Rattle.stream.specs.Limits.{blockLimit}
 use Rattle.state.specs.Configuration.{Configuration, configuration, readerAt, pending, refuse}
 use Rattle.state.specs.declared.phase.Phase.{Phase}
 use Rattle.state.specs.declared.phase.Phase.the-variants as P
@@ -47,11 +48,16 @@ followed c = record { number = following (c .number); hash = c .hash }
 unfoldable pub releasing : Reader → ℕ → ℕ → Reader
 releasing r size next = readerAt r (announced next (bodyWith r size)) (r .fixed) (followed (r .chain)) size
 
+-- "N from 1 to 65,536": only a state that no stream leads to has a larger size, and it is clipped
+abbrev pub blockLength : ℕ → ℕ
+blockLength size = min size blockLimit
+
 -- a yes gives "*block* (offset, length)", a no refusal 10, with the block pending
 unfoldable pub blockAnswer : ℕ → ℕ → Configuration → Bool → Response
 blockAnswer size next d good =
     pick good
-    (telling (W.Block (offsetNow (d .reader)) size) 0 (configuration (releasing (d .reader) size next) (d .head) (d .block) (d .question)))
+    (telling (W.Block (offsetNow (d .reader)) (blockLength size)) 0
+    (configuration (releasing (d .reader) (blockLength size) next) (d .head) (d .block) (d .question)))
     (given 0 (refuse 10 size d))
 
 -- ---- the calls

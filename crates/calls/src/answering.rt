@@ -1,4 +1,5 @@
 // An answer to an open question: whether the signature is good.
+use crate::outcome::BLOCK_ROOM;
 use crate::outcome::Outcome;
 use crate::outcome::are_roomy;
 use crate::outcome::ended;
@@ -65,7 +66,8 @@ fn answer_head(r: Reader, n: usize, good: bool) -> Outcome
     told(Word::Head(fixed.status), 0, accepted(r, n))
 }
 
-// The answer about the block of `size` bytes, after whose line `next` bytes follow.
+// The answer about the block of `size` bytes, after whose line `next` bytes follow. Only a state that no stream leads to has a
+// larger size than a block may have: it is clipped, so that no length past the room for a block is told or handed out.
 fn answer_block(r: Reader, block: &mut [u8], size: usize, next: usize, good: bool) -> Outcome
     ensures { λ o. ⌜ ((h q : List ℕ) → made o h (now (block .exit)) q ≡ blockAnswer size next (configuration r h (now (block .entry)) q) good) ⌝ }
 {
@@ -73,18 +75,12 @@ fn answer_block(r: Reader, block: &mut [u8], size: usize, next: usize, good: boo
         let s = state::refused(r, block, size, 10);
         return ended(s, 0);
     }
+    let length = places::least(size, BLOCK_ROOM);
     let chain = r.chain;
     let number = chain.number;
     let fixed = r.fixed;
     let offset = blocks::offset_of(number, fixed.block_size as u64);
-    told(
-        Word::Block {
-            offset,
-            length: size,
-        },
-        0,
-        released(r, size, next),
-    )
+    told(Word::Block { offset, length }, 0, released(r, length, next))
 }
 
 // Whether the signature that was asked about is good.

@@ -10,7 +10,7 @@ ghost use Rattle.calls.specs.Response.{areRoomy, isReading, takingBack};
 // The least room for a head, and for a question; and for a block.
 const HEAD_ROOM: usize = 8_192;
 
-const BLOCK_ROOM: usize = 65_536;
+pub(crate) const BLOCK_ROOM: usize = 65_536;
 
 // The word, how many bytes of the piece were taken, the signature that a question is about (else zeros), and the reader after the
 // call.

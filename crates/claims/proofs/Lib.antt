@@ -8,6 +8,15 @@ pub mod DayTally
 pub mod LentRing
 pub mod Alongside
 pub mod Reached
+pub mod HeadBounds
+pub mod StepBounds
+pub mod Bounds
+pub mod ResultNumbers
+pub mod ValueSize
+pub mod LengthsTold
+pub mod TakenCounts
+pub mod Within
+pub mod ShownCalls
 pub mod OnBytes
 pub mod SignedLines
 pub mod Places
@@ -19,3 +28,4 @@ pub mod CallNumbers
 pub mod Numbers
 pub mod Closed
 pub mod Left
+pub mod Examples

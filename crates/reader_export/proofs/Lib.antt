@@ -1,2 +1,2 @@
 pub mod ExportLaws
-pub mod ListLaws
+pub mod LoanLaws

@@ -1,19 +1,19 @@
--- What the exported functions answer and leave in the bytes that they are lent, in terms of the reader's own calls (crate reader) and of
--- how state, ring and results are written down (crates layout, packing and results). Assumes nothing.
+-- What the exported functions answer and leave in the bytes that they are lent, in terms of the reader's calls on the first parts of the
+-- buffers (crate fronts) and of how state, ring and results are written down (crates layout, packing and results). Assumes nothing.
 use mathlib.Core.Bool.{Bool, not}
 use mathlib.Core.List.{List, []}
 use Prim.Native.Nat.{ℕ}
 use lib.Dec.{eqb, leb}
-use lib.ListN.{length}
+use lib.ListN.{length, take}
 use Rattle.octets.specs.Choice.{pick}
+use Rattle.stream.specs.Limits.{headLimit, blockLimit}
 use Rattle.handing.specs.Handing.{handedValue}
 use Rattle.packing.specs.Keys.{keysIn}
 use Rattle.packing.specs.Parts.{Placed, placing, placed}
 use Rattle.results.specs.Written.{Answer, made, areLong, answered}
 use Rattle.layout.specs.State.{stateSize, stored, decoded}
-use Rattle.calls.specs.Answer.{answerOf, endOf}
 use Rattle.calls.specs.Response.{Response}
-use Rattle.reader.specs.Feed.{feedOf}
+use Rattle.fronts.specs.Fronts.{feedFront, answerFront, endFront}
 use Rattle.handing.specs.Released.{blockPart}
 use Rattle.state.specs.Configuration.{Configuration, configuration, freshReader}
 
@@ -43,22 +43,23 @@ abbrev pub configurationIn : List ℕ → List ℕ → List ℕ → List ℕ →
 configurationIn s h b q = configuration (decoded s) h b q
 
 abbrev pub feedIn : List ℕ → List ℕ → List ℕ → List ℕ → List ℕ → List ℕ → Response
-feedIn s h b q ring piece = feedOf (keysIn ring) (configurationIn s h b q) piece
+feedIn s h b q ring piece = feedFront (keysIn ring) (configurationIn s h b q) piece
 
 abbrev pub isYes : ℕ → Bool
 isYes n = not (eqb n 0)
 
 abbrev pub answerIn : List ℕ → List ℕ → List ℕ → List ℕ → Bool → Response
-answerIn s h b q good = answerOf (configurationIn s h b q) good
+answerIn s h b q good = answerFront (configurationIn s h b q) good
 
 abbrev pub endIn : List ℕ → List ℕ → List ℕ → List ℕ → Response
-endIn s h b q = endOf (configurationIn s h b q)
+endIn s h b q = endFront (configurationIn s h b q)
 
 -- ---- what is handed out
 
--- nothing where the state's buffer is too short
+-- of the first part of the buffer, and nothing where the state's buffer is too short
 unfoldable pub blockIn : List ℕ → List ℕ → List ℕ
-blockIn s b = pick (leb stateSize (length s)) (blockPart b (decoded s .released)) []
+blockIn s b = pick (leb stateSize (length s)) (blockPart (take blockLimit b) (decoded s .released)) []
 
 unfoldable pub valueIn : List ℕ → List ℕ → List ℕ → List ℕ → Placed
-valueIn s h name v = pick (leb stateSize (length s)) (placed (handedValue h (decoded s .fixed .accepted) name) v) (placing 0 v)
+valueIn s h name v =
+    pick (leb stateSize (length s)) (placed (handedValue (take headLimit h) (decoded s .fixed .accepted) name) v) (placing 0 v)

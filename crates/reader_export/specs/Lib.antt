@@ -1,2 +1,2 @@
 pub mod Export
-pub mod Lists
+pub mod Loan

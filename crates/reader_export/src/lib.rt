@@ -1,5 +1,6 @@
 // The reader for a program in C or another language, with numbers and slices of bytes alone: its state lies in a lent buffer, is read
-// from it before each call and written back after it. Any bytes may stand in that buffer. See include/ouinet_reader.h.
+// from it before each call and written back after it. Any bytes may stand in that buffer: of the three working buffers just the first
+// parts are lent on (crate fronts), so that the rest is safe from every state. See include/ouinet_reader.h.
 use layout::STATE_SIZE;
 use results::are_long;
 use results::finish;
@@ -47,7 +48,7 @@ pub extern "C" fn ouinet_reader_feed(
     if !are_long(state.len(), result.len()) {
         return SHORT;
     }
-    let o = reader::feed(
+    let o = fronts::feed(
         layout::load(state),
         head,
         block,
@@ -74,7 +75,7 @@ pub extern "C" fn ouinet_reader_answer(
     if !are_long(state.len(), result.len()) {
         return SHORT;
     }
-    let o = reader::answer(layout::load(state), head, block, question, good != 0);
+    let o = fronts::answer(layout::load(state), head, block, question, good != 0);
     finish(o, state, result)
 }
 
@@ -93,7 +94,7 @@ pub extern "C" fn ouinet_reader_end(
     if !are_long(state.len(), result.len()) {
         return SHORT;
     }
-    let o = reader::end(layout::load(state), head, block, question);
+    let o = fronts::end(layout::load(state), head, block, question);
     finish(o, state, result)
 }
 
@@ -107,7 +108,7 @@ pub extern "C" fn ouinet_reader_block(state: &[u8], block: &[u8]) -> usize
     }
     let r = layout::load(state);
     let released = r.released;
-    let part = reader::block_part(block, released);
+    let part = fronts::block_part(block, released);
     part.len()
 }
 
@@ -127,6 +128,6 @@ pub extern "C" fn ouinet_reader_value(
     let r = layout::load(state);
     let fixed = r.fixed;
     let accepted = fixed.accepted;
-    let part = reader::field_part(head, accepted, name);
+    let part = fronts::field_part(head, accepted, name);
     packing::place(part, value)
 }

@@ -1,5 +1,5 @@
-//! States that no call wrote. For them the library promises safety, and refusals 1 and 2: it stays within its buffers, takes
-//! no more than the piece has, says one of the words, and says the same each time.
+//! States that no call wrote. For them the library promises safety, and refusals 1 and 2: it stays within the named first part of each
+//! buffer, names no length beyond it, takes no more than the piece has, says one of the words, and says the same each time.
 
 use crate::buffers::{too_short, Buffers, Lengths};
 use crate::due::same;
@@ -123,6 +123,14 @@ fn check_word(now: &Buffers, before: &Buffers, call: &Call, word: u8, due: Optio
     if word > raw::REFUSED || outcome.taken > piece as u64 {
         return Err(format!("word {word}, {} taken of {piece} bytes", outcome.taken));
     }
+    let (named, size) = match word {
+        raw::QUESTION => (outcome.first, raw::QUESTION_SIZE),
+        raw::BLOCK => (outcome.second, raw::BLOCK_SIZE),
+        _ => (0, 0),
+    };
+    if named > size as u64 {
+        return Err(format!("word {word} names {named} bytes of {size}"));
+    }
     let refused = (word == raw::REFUSED).then_some(outcome.first);
     if due.is_some() {
         same("the refusal", &refused, &due)?;
@@ -148,23 +156,23 @@ fn make(buffers: &mut Buffers, call: &Call, ring: &[u8], lengths: &Lengths) -> u
     }
 }
 
-/// Takes the buffers as they are now, with their marks unchanged.
+/// Takes the named first part of each buffer as it is now; what lies beyond, and the marks, must be unchanged.
 fn settle(buffers: &mut Buffers) -> Result<(), String> {
     buffers.state.accept_front(raw::STATE_SIZE);
-    buffers.head.accept();
-    buffers.block.accept();
-    buffers.question.accept();
+    buffers.head.accept_front(raw::HEAD_SIZE);
+    buffers.block.accept_front(raw::BLOCK_SIZE);
+    buffers.question.accept_front(raw::QUESTION_SIZE);
     buffers.result.accept_front(raw::RESULT_SIZE);
     buffers.check()
 }
 
-/// The handed-out parts lie within their buffers.
+/// The handed-out parts lie within the named first parts of their buffers.
 fn check_parts(buffers: &Buffers) -> Result<(), String> {
     let state = buffers.state.get();
     let block = raw::block(state, buffers.block.get());
     let mut value = [0; raw::HEAD_SIZE];
     let length = raw::value(state, buffers.head.get(), b"X-Ouinet-URI", &mut value);
-    if block > buffers.block.len() || length > buffers.head.len() {
+    if block > raw::BLOCK_SIZE || length > raw::HEAD_SIZE {
         return Err(format!("a block of {block} bytes, a value of {length}"));
     }
     Ok(())

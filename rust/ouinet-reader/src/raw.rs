@@ -1,8 +1,10 @@
 //! The C interface as it is, over slices: numbers and lent bytes, and no state outside of them. All unsafe code of the crate
 //! is here. Most callers want [`Reader`](crate::Reader); this module is for callers with buffers of their own, and for tests.
 //!
-//! Every function is safe for any bytes and any lengths. A call whose state or result is too short changes nothing and
-//! returns [`SHORT`]. Numbers in the buffers have eight bytes, lowest byte first.
+//! Every function is safe for any bytes and any lengths. With every state, a forged one too, a length in a result and a part
+//! that is handed out are at most the sizes below and at most the buffer's length, and bytes of head, block and question
+//! beyond these sizes are neither read nor written. A call whose state or result is too short changes nothing and returns
+//! [`SHORT`]. Numbers in the buffers have eight bytes, lowest byte first.
 
 #![allow(unsafe_code)]
 

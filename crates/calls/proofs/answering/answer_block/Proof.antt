@@ -19,6 +19,9 @@ returns : tie.Need-returns
 unfolding blockAnswer
 returns c = λ h q. rw (c .ended .ensures, not-true (c .before .before .before .before .before .before .before .args .good) (c .before .before .before .before .before .if1 .taken)) (refused-call _ h _ q _ _ _ (c .before .before .before .refused .ensures h q))
 
+least-requires : tie.Need-least-requires
+least-requires c κs = search needs
+
 offset-of-requires : tie.Need-offset-of-requires
 offset-of-requires c κs = search needs
 
@@ -30,7 +33,7 @@ told-requires c κs = search needs
 
 returns-2 : tie.Need-returns-2
 unfolding blockAnswer
-returns-2 c = λ h q. rw (c .told .ensures, c .before .released .ensures, c .before .before .offset-of .ensures, not-false (c .before .before .before .before .before .before .before .before .args .good) (c .before .before .before .before .before .before .if1 .left))
+returns-2 c = λ h q. rw (c .told .ensures, c .before .released .ensures, c .before .before .offset-of .ensures, c .before .before .before .before .before .before .least .ensures, not-false (c .before .before .before .before .before .before .before .before .before .args .good) (c .before .before .before .before .before .before .before .if1 .left))
 
 pub answer-block-spec : {M : Type 1} → statement M
 answer-block-spec =
@@ -40,6 +43,7 @@ answer-block-spec =
     ended-requires
     same-length
     returns
+    least-requires
     offset-of-requires
     released-requires
     told-requires
