@@ -1,6 +1,6 @@
 #!/usr/bin/env bash
-# The table of definitions in docs/CLAIMS.md is what scripts/believed works out from the statements in crates/claims/specs: every file that
-# they name, directly or by way of others, with the lines that count.
+# The table of definitions in docs/CLAIMS.md is what scripts/believed works out from the statements of the claims: every file that they name,
+# directly or by way of others, with the lines that count.
 set -uo pipefail
 cd "$(dirname "$0")/.." || exit
 . scripts/counting

@@ -8,16 +8,6 @@ pub mod DayTally
 pub mod LentRing
 pub mod Alongside
 pub mod Reached
-pub mod HeadBounds
-pub mod StepBounds
-pub mod Bounds
-pub mod ResultNumbers
-pub mod ValueSize
-pub mod LengthsTold
-pub mod TakenCounts
-pub mod Within
-pub mod ShownCalls
-pub mod OnBytes
 pub mod SignedLines
 pub mod Places
 pub mod Turns

@@ -3,12 +3,9 @@ pub mod Runs
 pub mod Lent
 pub mod Words
 pub mod Ordinary
-pub mod ExportedCalls
-pub mod OnBytes
 pub mod Demand1
 pub mod Demand2
 pub mod Demand3
-pub mod Within
 pub mod Numbers
 pub mod SignedValues
 pub mod Handed

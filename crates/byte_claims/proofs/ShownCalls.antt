@@ -29,11 +29,11 @@ use Rattle.reader_export.specs.Loan.{Loan, loan, isLong, Kept}
 use Rattle.agreement.specs.Loans.{haveRoom, loanFits}
 use Rattle.agreement.specs.Run.{called, blockSeen, valueSeen, aside}
 use Rattle.agreement.proofs.Lists.{misfit-unchanged}
-use Rattle.claims.specs.ExportedCalls.{Held, same, other, keptAfter}
-use Rattle.claims.specs.OnBytes.{heldIn, seenIn, seenOf, responseSeen, Untouched}
-use Rattle.claims.proofs.Bounds.{call-bound}
-use Rattle.claims.proofs.HeadBounds.{Long}
-use Rattle.claims.proofs.LengthsTold.{readerIn, calledIn, call-is, answer-is}
+use Rattle.byte_claims.specs.ExportedCalls.{Held, same, other, keptAfter}
+use Rattle.byte_claims.specs.OnBytes.{heldIn, seenIn, seenOf, responseSeen, Untouched}
+use Rattle.byte_claims.proofs.Bounds.{call-bound}
+use Rattle.byte_claims.proofs.HeadBounds.{Long}
+use Rattle.byte_claims.proofs.LengthsTold.{readerIn, calledIn, call-is, answer-is}
 
 -- ---- what is seen by the exported functions
 

@@ -19,7 +19,7 @@ use Rattle.agreement.specs.Plain.{plainTrace}
 use Rattle.agreement.specs.Run.{Invocation, blockSeen, valueSeen, observed, runCall, plainCalls}
 use Rattle.agreement.specs.Run as Run
 use Rattle.buffers.specs.Left.{buffersIn, leftAfter}
-use Rattle.claims.specs.ExportedCalls.{Held, ExportedCall, same, other, tooShort, keptAfter, Calls}
+use Rattle.byte_claims.specs.ExportedCalls.{Held, ExportedCall, same, other, tooShort, keptAfter, Calls}
 
 -- ---- what is seen after each
 

@@ -17,10 +17,10 @@ use Rattle.reader_export.specs.Loan.{exported}
 use Rattle.reader_export.proofs.LoanLaws.{exported-short}
 use Rattle.agreement.specs.Run.{observed, runCall, runFrom, run, Invocation}
 use Rattle.buffers.specs.Left.{buffersIn, leftBy, leftFrom, leftAfter}
-use Rattle.claims.specs.ExportedCalls.{Held, ExportedCall, same, other, tooShort, Calls, over, next}
-use Rattle.claims.specs.OnBytes.{heldIn, seenIn, shown, invocations, made, seenOf, responseSeen, views, OthersUntouched, heldAfter, HoldsOnBytes}
+use Rattle.byte_claims.specs.ExportedCalls.{Held, ExportedCall, same, other, tooShort, Calls, over, next}
+use Rattle.byte_claims.specs.OnBytes.{heldIn, seenIn, shown, invocations, made, seenOf, responseSeen, views, OthersUntouched, heldAfter, HoldsOnBytes}
 use Rattle.claims.proofs.Demand3.{demand-3}
-use Rattle.claims.proofs.ShownCalls.{seen-held, Shows, same-shows, other-shows, other-untouched}
+use Rattle.byte_claims.proofs.ShownCalls.{seen-held, Shows, same-shows, other-shows, other-untouched}
 
 next-shown : (ring : List ℕ) (ks : List ExportedCall) (told : List Answer) {y : Held} {a : Answer} {t : List ℕ} {c : R.Response} → Shows y a t c
     → shown y ks told ≡ views (heldIn y) ks (made (keysIn ring) (heldIn y) (invocations ks))

@@ -28,8 +28,8 @@ use Rattle.calls.specs.Response.{areRoomy, fits, isReading, recalled, given, un
 use Rattle.stream.proofs.Truth.{left-holds, right-holds}
 use Rattle.reader.specs.Feed.{pushByte, fed, takenFrom, feedOf}
 use Rattle.agreement.specs.Run.{called}
-use Rattle.claims.proofs.HeadBounds.{Long, Named, NamedNext}
-use Rattle.claims.proofs.StepBounds.{long-push, named-push}
+use Rattle.byte_claims.proofs.HeadBounds.{Long, Named, NamedNext}
+use Rattle.byte_claims.proofs.StepBounds.{long-push, named-push}
 
 -- of a call from d
 pub record Bound (d : Configuration) (c : R.Response) : Type 0 where

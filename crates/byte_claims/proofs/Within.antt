@@ -24,12 +24,12 @@ use Rattle.reader_export.specs.Export.{blockIn, valueIn}
 use Rattle.reader_export.specs.Loan.{Loan, exported, isLong}
 use Rattle.reader_export.proofs.LoanLaws.{exported-short}
 use Rattle.agreement.specs.Run.{called}
-use Rattle.claims.specs.Within.{StaysWithin, firstLent, firstLeft, CallWithin, PartsWithin}
-use Rattle.claims.proofs.Bounds.{call-bound}
-use Rattle.claims.proofs.ResultNumbers.{taken-in}
-use Rattle.claims.proofs.TakenCounts.{call-taken}
-use Rattle.claims.proofs.ValueSize.{value-short}
-use Rattle.claims.proofs.LengthsTold.{readerIn, calledIn, answer-is, question-within, block-within, long-result}
+use Rattle.byte_claims.specs.Within.{StaysWithin, firstLent, firstLeft, CallWithin, PartsWithin}
+use Rattle.byte_claims.proofs.Bounds.{call-bound}
+use Rattle.byte_claims.proofs.ResultNumbers.{taken-in}
+use Rattle.byte_claims.proofs.TakenCounts.{call-taken}
+use Rattle.byte_claims.proofs.ValueSize.{value-short}
+use Rattle.byte_claims.proofs.LengthsTold.{readerIn, calledIn, answer-is, question-within, block-within, long-result}
 
 -- ---- a call
 

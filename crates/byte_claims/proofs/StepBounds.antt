@@ -32,7 +32,7 @@ use Rattle.body_steps.specs.Data.{pushData, pushDataEnd}
 use Rattle.body_steps.specs.Trailer.{trailerGathered, pushTrailer}
 use Rattle.body_steps.proofs.KeptBody.{kept-data, kept-data-end, kept-trailer}
 use Rattle.reader.specs.Feed.{pushAt}
-use Rattle.claims.proofs.HeadBounds.{Long, NamedNext, named-pick, named-refuse, head-long, head-named}
+use Rattle.byte_claims.proofs.HeadBounds.{Long, NamedNext, named-pick, named-refuse, head-long, head-named}
 
 -- ---- a line
 

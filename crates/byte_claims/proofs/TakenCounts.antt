@@ -17,7 +17,7 @@ use Rattle.calls.specs.Response.{Response, fits, isReading, recalled, given}
 use Rattle.reader.specs.Feed.{pushByte, takenFrom, feedOf}
 use Rattle.agreement.specs.Run.{called}
 use Rattle.agreement.proofs.Taking.{run-takes}
-use Rattle.claims.specs.Within.{atMost}
+use Rattle.byte_claims.specs.Within.{atMost}
 
 taken-pick : (n : ℕ) (t : Bool) (c e : Response) → c .taken ≤ n → e .taken ≤ n → pick t c e .taken ≤ n
 taken-pick n true c e a b = a

@@ -24,9 +24,9 @@ use Rattle.reader_export.specs.Export.{configurationIn}
 use Rattle.reader_export.specs.Loan.{Loan, callIn, exported, isLong}
 use Rattle.reader_export.proofs.LoanLaws.{exported-long}
 use Rattle.agreement.specs.Run.{called}
-use Rattle.claims.specs.Within.{Within}
-use Rattle.claims.proofs.ResultNumbers.{first-in, second-in}
-use Rattle.claims.proofs.HeadBounds.{Named}
+use Rattle.byte_claims.specs.Within.{Within}
+use Rattle.byte_claims.proofs.ResultNumbers.{first-in, second-in}
+use Rattle.byte_claims.proofs.HeadBounds.{Named}
 
 -- the reader that the bytes say, with the buffers, and its call on their first parts
 abbrev pub readerIn : Loan → Configuration

@@ -1,0 +1,11 @@
+pub mod HeadBounds
+pub mod StepBounds
+pub mod Bounds
+pub mod ResultNumbers
+pub mod ValueSize
+pub mod LengthsTold
+pub mod TakenCounts
+pub mod Within
+pub mod ShownCalls
+pub mod OnBytes
+pub mod Examples

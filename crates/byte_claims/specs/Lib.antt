@@ -1,0 +1,4 @@
+pub mod ExportedCalls
+pub mod OnBytes
+pub mod Within
+pub mod Examples
