@@ -58,12 +58,13 @@ misfit-unchanged r h b q keys end e = rw (neither (areRoomy (length h) (length b
 pub called-follows : (keys : KeyRing) (d : Configuration) (h : Handed) (s : Standing) (k : Request) → Holds (ringOf keys) d h s
     → CallFollows (ringOf keys) h k (called keys d k) (turn (rules (ringOf keys)) s (S.call (ringFits keys k) k))
 unfolding turn feedOf answerOf endOf
-called-follows keys d h s (feed piece) k = rw (roomy (k .lent)) (by (leb (keys .count) ringLimit))
+called-follows keys d h s (feed piece) k = by (leb (keys .count) ringLimit) refl
   where
-    by : (t : Bool)
-        → CallFollows (ringOf keys) h (feed piece) (pick t (pick (isReading (d .reader .phase)) (takenFrom (ringOf keys) (recalled d) piece) (unchanged 1 d)) (unchanged 2 d)) (turn (rules (ringOf keys)) s (S.call t (feed piece)))
-    by true = feed-follows (ringOf keys) h d s piece k
-    by false = unchanged-follows 2 d s refl k
+    -- by what the loan is, whatever form the call is written in
+    by : (t : Bool) → leb (keys .count) ringLimit ≡ t
+        → CallFollows (ringOf keys) h (feed piece) (called keys d (feed piece)) (turn (rules (ringOf keys)) s (S.call (ringFits keys (feed piece)) (feed piece)))
+    by true e = rw (roomy (k .lent), e) (feed-follows (ringOf keys) h d s piece k)
+    by false e = rw (roomy (k .lent), e) (unchanged-follows 2 d s refl k)
 called-follows keys d h s (answer good) k = rw (roomy (k .lent)) (answer-follows (ringOf keys) h d (d .reader .phase) s good k (k .stands))
 called-follows keys d h s end k = rw (roomy (k .lent)) (end-follows (ringOf keys) h d s k)
 

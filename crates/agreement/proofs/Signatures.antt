@@ -1,6 +1,6 @@
 -- Only a question comes with a signature: with any other word go 64 zeros, whatever the state. Assumes nothing.
 use mathlib.Core.Path.{_≡_, refl}
-use mathlib.Core.Bool.{Bool, true, false, true≢false, _&&_}
+use mathlib.Core.Bool.{Bool, true, false, true≢false}
 use mathlib.Core.List.{List, [], _∷_}
 use Prim.Native.Nat.{ℕ, _+_}
 use lib.Dec.{eqb, leb}
@@ -128,10 +128,13 @@ unsigned-answer d (P.Refused n) good = λ e. refl
 -- NO OTHER WORD comes with anything but zeros.
 pub unsigned-call : (keys : KeyRing) (d : Configuration) (r : Request) → isQuestion (called keys d r .word) ≡ false → called keys d r .signature ≡ noSignature
 unfolding feedOf takenFrom answerOf endOf
-unsigned-call keys d (feed piece) =
-    call-pick (fits d && leb (keys .count) ringLimit) _ _
-    (call-pick (isReading (d .reader .phase)) _ _ (unsigned-run (ringOf keys) (recalled d) 0 piece) (λ e. refl))
-    (λ e. refl)
+unsigned-call keys d (feed piece) = by (fits d) refl (leb (keys .count) ringLimit) refl
+  where
+    -- by what the loan is, whatever form the call is written in
+    by : (t : Bool) → fits d ≡ t → (u : Bool) → leb (keys .count) ringLimit ≡ u → UnsignedCall (called keys d (feed piece))
+    by true e true f = rw (e, f) (call-pick (isReading (d .reader .phase)) _ _ (unsigned-run (ringOf keys) (recalled d) 0 piece) (λ x. refl))
+    by true e false f = rw (e, f) (λ x. refl)
+    by false e u f = rw e (λ x. refl)
 unsigned-call keys d (answer good) = call-pick (fits d) _ _ (unsigned-answer d (d .reader .phase) good) (λ e. refl)
 unsigned-call keys d end =
     call-pick (fits d) _ _ (call-pick (isReading (d .reader .phase)) _ _ (given-unsigned 11 (pending (d .reader .phase)) (recalled d)) (λ e. refl)) (λ e. refl)

@@ -93,11 +93,19 @@ module _ {C Q E L : Type 0} (R : Rules C Q E L) (start : C) where
   request-agrees {s} k (live st g) = live-agrees s k st g
   request-agrees k (ended st e) = refusal-agrees 1 (ended st e)
 
+  -- a call that is ill lent, wherever the machine stands
+  ill-agrees : {h : History} {log : Log Q E L} (s : State C E L) (k : Request) → Inv R start h log s
+      → Agrees h k log (turn R s (call false k)) (readCall R start h (call false k))
+  unfolding turn readCall
+  ill-agrees (running c g) k v = refusal-agrees 2 v
+  ill-agrees (asked y) k v = refusal-agrees 2 v
+  ill-agrees finished k v = refusal-agrees 2 v
+
   -- ONE CALL keeps the invariant, and its word and count are those of the reading.
   pub turn-agrees : {h : History} {log : Log Q E L} {s : State C E L} (k : Call) → Inv R start h log s
       → Agrees h (request k) log (turn R s k) (readCall R start h k)
   unfolding turn readCall
-  turn-agrees (call false k) v = refusal-agrees 2 v
+  turn-agrees {s} (call false k) v = ill-agrees s k v
   turn-agrees (call true k) v = rw (inv-read R start v, inv-stands R start v) (request-agrees k v)
 
   -- and so does every list of calls
