@@ -2,6 +2,7 @@
 """Writes what the program must write: `python3 expected.py > stdout`.
 
 SHA-512 is hashlib's. A text is the base64 of n bytes where base64's module decodes it to n bytes and encodes these to the same text again.
+How far a text goes well is found by trying: a beginning of it goes well where some end makes it the base64 of n bytes.
 """
 import base64
 import binascii
@@ -84,9 +85,52 @@ def signature(text):
     ]
 
 
+def completed(start, n):
+    """Whether some end makes start the base64 of n bytes. `A` may stand wherever a letter may, so ends of `A` and of no, one or two `=` will do."""
+    missing = len(base64.b64encode(bytes(n))) - len(start)
+    ends = [b"A" * (missing - k) + b"=" * k for k in range(3) if k <= missing]
+    return any(decoded(start + end, n) is not None for end in ends)
+
+
+def stop(text, n):
+    return max(k for k in range(len(text) + 1) if completed(text[:k], n))
+
+
+def stops(name, n, others, text):
+    print(f"\nBase64 of a {name}, how far it goes well")
+    for what, other in others:
+        print(f"{what}: {stop(other, n)}" + (", good" if decoded(other, n) is not None else ""))
+    for b in b"=AB-":
+        places = [stop(text[:i] + bytes([b]) + text[i + 1 :], n) for i in range(len(text))]
+        print(f"with {chr(b)} at each place:", *places)
+
+
 messages()
 chain()
 short_texts()
 signature_bytes = bytes((3 + 7 * i) % 256 for i in range(64))
 texts("key", bytes(range(200, 232)), base64.b64encode(signature_bytes)[:46], key)
 texts("signature", signature_bytes, b"AA", signature)
+key_text, signature_text = base64.b64encode(bytes(range(200, 232))), base64.b64encode(signature_bytes)
+stops(
+    "key",
+    32,
+    [
+        ("good", key_text),
+        ("one character more", key_text + b"="),
+        ("no character", b""),
+        ("a padded group before it", b"Zm8=" + key_text),
+    ],
+    key_text,
+)
+stops(
+    "signature",
+    64,
+    [
+        ("good", signature_text),
+        ("one character less", signature_text[:87]),
+        ("two characters less", signature_text[:86]),
+        ("a key in its place", key_text),
+    ],
+    signature_text,
+)

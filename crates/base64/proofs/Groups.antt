@@ -49,7 +49,7 @@ put-three (a ∷ b ∷ []) zero x y z = refl
 put-three (a ∷ b ∷ c ∷ l) zero x y z = ap (λ (r : List ℕ). x ∷ y ∷ z ∷ r) (sym (take-nil (length l)))
 put-three (a ∷ l) (suc o) x y z = ap (λ (r : List ℕ). a ∷ r) (put-three l o x y z)
 
--- A turn of the loop that writes: a group's bits g, and the buffer after each of its three bytes.
+-- What a turn of the loop writes: a group's bits g, and the buffer after each of its three bytes.
 module _ (t out : List ℕ) (o i : ℕ) {g : ℕ} {p q r : List ℕ}
     (bits : g ≡ joinedLetters (getD t i 0) (getD t (i + 1) 0) (getD t (i + 2) 0) (getD t (i + 3) 0))
     (first : p ≡ set out o (highByte g)) (second : q ≡ set p (o + 1) (midByte g)) (third : r ≡ set q (o + 2) (lowByte g)) where

@@ -2,14 +2,16 @@
 use borrow.Author.Tests.{eqb-true, leb-true}
 use mathlib.Core.Bool.{Bool, true, false, _&&_}
 use mathlib.Core.List.{List}
-use mathlib.Core.Path.{_≡_, refl, ap, _∙_}
-use Prim.Native.Nat.{ℕ, zero, suc, _+_, _-_, _*_, _/_, _<_}
+use mathlib.Core.Path.{_≡_, refl, sym, ap, _∙_}
+use Prim.Native.Nat.{ℕ, zero, suc, _*_, _<_}
 use native.Mathlib.Omega.{arith}
 use lib.Dec.{eqb, leb}
 use lib.ListN.{length, getD, drop, length-drop}
 use Rattle.octets.specs.Choice.{pick}
 use Rattle.base64.specs.Base64.{first4, holdsOne, holdsTwo, holdsThree, isBase64, base64Bytes}
 use Rattle.base64.specs.Decoding.{Decoded, answered, decoded}
+use Rattle.base64.specs.Places.{groups, checked}
+use Rattle.base64.specs.declared.Checked.{Checked}
 use Rattle.base64.proofs.Computed.{both-left, both-right}
 
 -- n bytes are n bytes
@@ -35,7 +37,7 @@ bytes-below (suc (suc (suc n))) t (suc (suc zero)) = omega arith
 bytes-below (suc (suc (suc n))) t (suc (suc (suc i))) = bytes-below n (drop 4 t) i
 
 -- a text of n bytes has four characters for each three of them, begun or whole
-pub text-length : (n : ℕ) (t : List ℕ) → isBase64 n t ≡ true → length t ≡ (n + 2) / 3 * 4
+pub text-length : (n : ℕ) (t : List ℕ) → isBase64 n t ≡ true → length t ≡ groups n * 4
 unfolding isBase64
 text-length zero t h = eqb-true _ _ h
 text-length (suc zero) t h = eqb-true _ _ (both-left (eqb (length t) 4) (first4 holdsOne t) h)
@@ -54,6 +56,17 @@ decoded-text n t buffer h = rw h
 pub decoded-other : (n : ℕ) (t buffer : List ℕ) → isBase64 n t ≡ false → decoded n t buffer ≡ answered false buffer
 unfolding decoded
 decoded-other n t buffer h = rw h
+
+-- decoding, by what a check of the text answered
+module _ (n : ℕ) (t : List ℕ) {r : Checked} (said : r ≡ checked n t) where
+  pub is-good : r .good ≡ true → isBase64 n t ≡ true
+  is-good h = sym (ap (λ (c : Checked). c .good) said) ∙ h
+
+  pub good-read : (before : List ℕ) {after : List ℕ} → r .good ≡ true → after ≡ base64Bytes n t → answered true after ≡ decoded n t before
+  good-read before h e = ap (answered true) e ∙ sym (decoded-text n t before (is-good h))
+
+  pub other-kept : (before : List ℕ) → r .good ≡ false → answered false before ≡ decoded n t before
+  other-kept before h = sym (decoded-other n t before (sym (ap (λ (c : Checked). c .good) said) ∙ h))
 
 -- what a caller learns of the answer and the buffer from a contract, `answered ok after ≡ decoded n t before`
 module _ (n : ℕ) (t before : List ℕ) {ok : Bool} {after : List ℕ} (said : answered ok after ≡ decoded n t before) where

@@ -2,27 +2,22 @@
 use borrow.Author.Tests.{leb-true, eqb-true}
 use mathlib.Core.Bool.{Bool, true, _&&_}
 use mathlib.Core.Path.{_≡_, refl}
-use Prim.Native.Nat.{ℕ, _+_, _-_, _≤_, _<_}
+use Prim.Native.Nat.{ℕ, _≤_, _<_}
 use lib.Dec.{eqb, leb}
-use Rattle.octets.specs.Choice.{pick}
 use Rattle.base64.specs.Base64.{letterValue}
+use Rattle.base64.specs.Groups.{inRange}
 use Rattle.base64.proofs.Computed.{both-left, below}
 
 abbrev pub byRange : ℕ → ℕ
-byRange b =
-    pick (leb 65 b && leb b 90) (b - 65)
-    (pick (leb 97 b && leb b 122) (b - 97 + 26)
-    (pick (leb 48 b && leb b 57) (b - 48 + 52)
-    (pick (eqb b 43) 62
-    (pick (eqb b 47) 63 64))))
+byRange b = inRange b 65 90 0 (inRange b 97 122 26 (inRange b 48 57 52 (inRange b 43 43 62 (inRange b 47 47 63 64))))
 
-same : ℕ → Bool
-same b = eqb (byRange b) (letterValue b)
+byRangeIs : ℕ → Bool
+byRangeIs b = eqb (byRange b) (letterValue b)
 
 -- one test, computed at each byte
 pub range-value : (b : ℕ) → b < 256 → byRange b ≡ letterValue b
-unfolding same letterValue
-range-value b h = eqb-true _ _ (below same 256 refl b h)
+unfolding byRangeIs letterValue
+range-value b h = eqb-true _ _ (below byRangeIs 256 refl b h)
 
 -- a byte in a range is not below it
 pub from-low : (low high b : ℕ) → (leb low b && leb b high) ≡ true → low ≤ b

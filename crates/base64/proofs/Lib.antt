@@ -1,8 +1,12 @@
 pub mod Computed
 pub mod Letters
 pub mod Groups
+pub mod Standing
 pub mod Texts
+pub mod Turns
 pub mod Laws
 pub mod Values
 pub mod Written
 pub mod Unique
+pub mod Viable
+pub mod Samples

@@ -10,4 +10,5 @@ fn main() {
     texts::short_texts();
     texts::keys();
     texts::signatures();
+    texts::stops();
 }

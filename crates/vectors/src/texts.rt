@@ -1,4 +1,4 @@
-// Base64: RFC 4648's own examples, and texts of 32 and 64 bytes that are good, or bad in one place.
+// Base64: RFC 4648's own examples, and texts of 32 and 64 bytes that are good, or bad in one place, and how far these go well.
 use crate::lines::say;
 use crate::lines::say_hex;
 use crate::lines::say_number;
@@ -172,4 +172,73 @@ pub fn signatures() {
         b"AwoRGB8mLTQ7QklQV15lbHN6gYiPlp2kq7K5wMfO1dzj6vH4/wYNFBsiKTA3PkVMU1phaG92fYSLkpmgp661vA==AA",
         &mut [MARK; 64],
     );
+}
+
+// How far a text goes well as the base64 of n bytes.
+fn stop(name: &[u8], text: &[u8], n: usize) {
+    let checked = base64::check(text, n);
+    say(name);
+    say(b": ");
+    say_number(checked.at);
+    if checked.good {
+        say(b", good");
+    }
+    say(b"\n");
+}
+
+// How far a text goes well with byte b at a place.
+fn stop_with(text: &mut [u8], n: usize, at: usize, b: u8) {
+    if text.len() <= at {
+        return;
+    }
+    let before = text[at];
+    text[at] = b;
+    say(b" ");
+    say_number(base64::check(text, n).at);
+    text[at] = before;
+}
+
+// The same with b at each place in turn.
+fn stops_with(text: &mut [u8], n: usize, b: u8) {
+    say(b"with ");
+    say(&[b]);
+    say(b" at each place:");
+    let mut at = 0;
+    while at < text.len() {
+        stop_with(text, n, at, b);
+        at += 1;
+    }
+    say(b"\n");
+}
+
+pub fn stops() {
+    say(b"\nBase64 of a key, how far it goes well\n");
+    let mut key = *b"yMnKy8zNzs/Q0dLT1NXW19jZ2tvc3d7f4OHi4+Tl5uc=";
+    stop(b"good", &key, 32);
+    stop(
+        b"one character more",
+        b"yMnKy8zNzs/Q0dLT1NXW19jZ2tvc3d7f4OHi4+Tl5uc==",
+        32,
+    );
+    stop(b"no character", b"", 32);
+    stop(
+        b"a padded group before it",
+        b"Zm8=yMnKy8zNzs/Q0dLT1NXW19jZ2tvc3d7f4OHi4+Tl5uc=",
+        32,
+    );
+    stops_with(&mut key, 32, b'=');
+    stops_with(&mut key, 32, b'A');
+    stops_with(&mut key, 32, b'B');
+    stops_with(&mut key, 32, b'-');
+    say(b"\nBase64 of a signature, how far it goes well\n");
+    let mut signature =
+        *b"AwoRGB8mLTQ7QklQV15lbHN6gYiPlp2kq7K5wMfO1dzj6vH4/wYNFBsiKTA3PkVMU1phaG92fYSLkpmgp661vA==";
+    stop(b"good", &signature, 64);
+    stop(b"one character less", &signature[..87], 64);
+    stop(b"two characters less", &signature[..86], 64);
+    stop(b"a key in its place", &key, 64);
+    stops_with(&mut signature, 64, b'=');
+    stops_with(&mut signature, 64, b'A');
+    stops_with(&mut signature, 64, b'B');
+    stops_with(&mut signature, 64, b'-');
 }

@@ -1,22 +1,19 @@
--- `base64::decode` meets its contract: the laws of `decoded`, for a text and for anything else. Assumes nothing.
+-- `base64::decode` meets its contract: the laws of `decoded`, by what `check` answered. Assumes nothing.
 use borrow.Author.Needs.{needs}
 use borrow.Author.Tests.{not-true, not-false}
-use mathlib.Core.Bool.{true}
-use mathlib.Core.Path.{sym, ap, _∙_}
-use native.Mathlib.Nat.{le-of-eq}
-use Rattle.base64.specs.Decoding.{answered}
-use Rattle.base64.proofs.Laws.{text-length, decoded-text, decoded-other}
+use mathlib.Core.Path.{refl}
+use Rattle.base64.proofs.Laws.{is-good, good-read, other-kept}
 use Rattle.base64.proofs.decode.Statement.{statement}
 use Rattle.base64.proofs.decode.Tie as tie
 
-is-text-requires : tie.Need-is-text-requires
-is-text-requires c κs = search needs
+check-requires : tie.Need-check-requires
+check-requires c κs = search needs
 
 returns : tie.Need-returns
-returns c = sym (decoded-other _ _ _ (sym (c .before .is-text .ensures) ∙ not-true _ (c .if1 .taken)))
+returns c = other-kept _ _ (c .before .before .check .ensures .0) _ (not-true _ (c .if1 .taken))
 
-fill-requires : tie.Need-fill-requires
-fill-requires c κs = le-of-eq (sym (text-length _ _ (sym (c .before .before .is-text .ensures) ∙ not-false _ (c .before .if1 .left))))
+read-requires : tie.Need-read-requires
+read-requires c κs = search needs
 
 same-length : tie.Need-same-length
 same-length c = search needs
@@ -24,8 +21,9 @@ same-length c = search needs
 returns-2 : tie.Need-returns-2
 returns-2 c =
     let e = c .before .before .before .before in
-    ap (answered true) (c .before .before .fill .ensures)
-    ∙ sym (decoded-text _ _ _ (sym (e .before .is-text .ensures) ∙ not-false _ (e .if1 .left)))
+    let h = not-false _ (e .if1 .left) in
+    let k = e .before .before .check .ensures .0 in
+    good-read _ _ k _ h (c .before .before .read .ensures .1 refl (is-good _ _ k h))
 
 pub decode-spec : {M : Type 1} → statement M
-decode-spec = tie.close (tie.spec is-text-requires returns fill-requires same-length returns-2)
+decode-spec = tie.close (tie.spec check-requires returns read-requires same-length returns-2)
