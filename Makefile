@@ -20,8 +20,8 @@ long: program
 bench:
 	@scripts/setup
 	@bench/hash.sh
-	@bench/base64.sh
-	@bench/head.sh
+	@bench/timed base64 base64
+	@bench/timed head 'the judgement of a head'
 	@bench/reader.sh
 
 fuzz:

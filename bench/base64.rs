@@ -1,5 +1,5 @@
 // Times the proved reading of a signature's 88 base64 characters beside an ordinary one in Rust, which looks each character up in a
-// table. Both read the same 4,096 texts by turns. bench/base64.sh builds and runs this.
+// table. Both read the same 4,096 texts by turns. bench/timed builds and runs this.
 use std::hint::black_box;
 use std::time::Instant;
 

@@ -2,12 +2,7 @@
 # Times the proved SHA-512 beside an ordinary one in Rust, and then OpenSSL's, on blocks of the same size. Run it from the top of the
 # repository; it needs rt, rustc and openssl.
 set -e
-scripts/progress 'SHA-512' rt staticlib hash_export
-mkdir -p target/bench
-scripts/progress 'building the benchmark' \
-    rustc --edition 2021 -O -L target/staticlib -l static=hash_export -o target/bench/hash bench/hash.rs
-scripts/progress 'timing SHA-512' sh -c 'target/bench/hash >target/bench/hash.out'
-cat target/bench/hash.out
+bench/timed hash SHA-512
 
 # OpenSSL says how many thousands of bytes it hashes in a second; ours took so many seconds for 64 MiB.
 scripts/progress "timing OpenSSL's" \

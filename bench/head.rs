@@ -1,5 +1,5 @@
 // Times the judgement of good heads with as many fields and listed names as there may be: one of 8,192 bytes, the longest, and one of
-// half that. The bytes differ and the names do not, so the two times tell how the work grows with the bytes. bench/head.sh builds and
+// half that. The bytes differ and the names do not, so the two times tell how the work grows with the bytes. bench/timed builds and
 // runs this.
 use std::time::Instant;
 
