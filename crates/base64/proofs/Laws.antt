@@ -49,11 +49,11 @@ text-length (suc (suc (suc n))) t h =
     omega (arith, leb-true 4 (length t) l, length-drop 4 t, r)
 
 -- decoding, by what the text is
-pub decoded-text : (n : ℕ) (t buffer : List ℕ) → isBase64 n t ≡ true → decoded n t buffer ≡ answered true (base64Bytes n t)
+decoded-text : (n : ℕ) (t buffer : List ℕ) → isBase64 n t ≡ true → decoded n t buffer ≡ answered true (base64Bytes n t)
 unfolding decoded
 decoded-text n t buffer h = rw h
 
-pub decoded-other : (n : ℕ) (t buffer : List ℕ) → isBase64 n t ≡ false → decoded n t buffer ≡ answered false buffer
+decoded-other : (n : ℕ) (t buffer : List ℕ) → isBase64 n t ≡ false → decoded n t buffer ≡ answered false buffer
 unfolding decoded
 decoded-other n t buffer h = rw h
 

@@ -16,7 +16,7 @@ use Rattle.base64.specs.Places.{bytesBefore, bytesLeft, standsAs, stands
 
 -- ---- four tests
 
-abbrev pub hold4 : Bool → Bool → Bool → Bool → Bool
+abbrev hold4 : Bool → Bool → Bool → Bool → Bool
 hold4 p q r s = p && q && r && s
 
 -- as `leading4`, and x more where all hold

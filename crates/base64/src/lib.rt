@@ -2,7 +2,7 @@
 ghost use mathlib.Core.Bool.{true};
 ghost use mathlib.Core.Path.{_≡_};
 ghost use Prim.Native.Nat.{_<_};
-ghost use lib.ListN.{length, getD, set};
+ghost use lib.ListN.{length, set};
 ghost use Rattle.octets.specs.Viable.{LongestViable};
 ghost use Rattle.base64.specs.Base64.{letterValue, isBase64, base64Bytes};
 ghost use Rattle.base64.specs.Places.{standsAs, checked};
@@ -83,16 +83,6 @@ fn read_group(left: usize, a: u8, b: u8, c: u8, d: u8) -> Group
     Group { standing: 4, bits }
 }
 
-// The byte at a place of a text, and past its end 0, which may stand nowhere.
-fn byte_at(text: &[u8], at: usize) -> u8
-    ensures { λ r. ⌜ r ≡ getD (now (text .entry)) at 0 ⌝ }
-{
-    if at < text.len() {
-        return text[at];
-    }
-    0
-}
-
 // Writes a byte at a place of the buffer, or nothing where the buffer has no such place.
 fn put(out: &mut [u8], at: usize, b: u8)
     ensures { λ _. ⌜ now (out .exit) ≡ set (now (out .entry)) at b ⌝ }
@@ -113,10 +103,10 @@ fn read(text: &[u8], n: usize, out: &mut [u8]) -> Checked
     while o < n {
         let g = read_group(
             n - o,
-            byte_at(text, i),
-            byte_at(text, i + 1),
-            byte_at(text, i + 2),
-            byte_at(text, i + 3),
+            places::byte_at(text, i),
+            places::byte_at(text, i + 1),
+            places::byte_at(text, i + 2),
+            places::byte_at(text, i + 3),
         );
         if g.standing < 4 {
             return Checked {

@@ -5,16 +5,6 @@ ghost use lib.ListN.{length, getD};
 ghost use lib.Seq.{sets};
 ghost use Rattle.packing.specs.Parts.{littleEndian, allBytes, part, numberAt, placing, placed};
 
-// The byte at a place, 0 past the end.
-fn byte_at(from: &[u8], i: usize) -> u8
-    ensures { λ r. ⌜ r ≡ getD (now (from .entry)) i 0 ⌝ }
-{
-    if i < from.len() {
-        return from[i];
-    }
-    0
-}
-
 // Two bytes, the lower first, as a number; then two such numbers, and two of those.
 fn pair(low: u8, high: u8) -> u16
     ensures { λ r. ⌜ r ≡ low + 256 * high ⌝ }
@@ -39,8 +29,8 @@ fn quad_at(from: &[u8], at: usize) -> u32
     requires { ⌜ at ≤ 131072 ⌝ }
     ensures { λ r. ⌜ r ≡ getD (now (from .entry)) at 0 + 256 * getD (now (from .entry)) (at + 1) 0 + 65536 * (getD (now (from .entry)) (at + 2) 0 + 256 * getD (now (from .entry)) (at + 3) 0) ⌝ }
 {
-    let low = pair(byte_at(from, at), byte_at(from, at + 1));
-    let high = pair(byte_at(from, at + 2), byte_at(from, at + 3));
+    let low = pair(places::byte_at(from, at), places::byte_at(from, at + 1));
+    let high = pair(places::byte_at(from, at + 2), places::byte_at(from, at + 3));
     quad(low, high)
 }
 
@@ -59,7 +49,7 @@ pub(crate) fn copy_part(to: &mut [u8], from: &[u8], at: usize)
 {
     let mut i = 0;
     while i < to.len() {
-        let x = byte_at(from, at + i);
+        let x = places::byte_at(from, at + i);
         to[i] = x;
         i += 1;
     }

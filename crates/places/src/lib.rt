@@ -1,6 +1,7 @@
 // Numbers as places in a text, whatever they are: the bytes between two places, and bytes written from a place on.
 ghost use mathlib.Core.Path.{_≡_};
 ghost use Prim.Native.Nat.{_-_, min};
+ghost use lib.ListN.{getD};
 ghost use Rattle.places.specs.Place.{Clips, partOf};
 
 mod writing; // bytes written into a buffer
@@ -27,6 +28,16 @@ pub fn less(a: usize, b: usize) -> usize
         return 0;
     }
     a - b
+}
+
+// The byte at a place, 0 past the end.
+pub fn byte_at(text: &[u8], at: usize) -> u8
+    ensures { λ r. ⌜ r ≡ getD (now (text .entry)) at 0 ⌝ }
+{
+    if at < text.len() {
+        return text[at];
+    }
+    0
 }
 
 // The text from `start` up to `end`, as far as it goes, by places that lie within it.

@@ -18,7 +18,7 @@ use Rattle.base64.proofs.read.Statement.{statement}
 use Rattle.base64.proofs.read.Tie as tie
 use Rattle.base64.proofs.read.Reads as reads
 use Rattle.base64.proofs.read.Lts as lts
-use Rattle.base64.proofs.byte_at.Reads as byte-at-reads
+use Rattle.places.proofs.byte_at.Reads as byte-at-reads
 use Rattle.base64.proofs.put.Reads as put-reads
 use Rattle.base64.proofs.read_group.Reads as read-group-reads
 

@@ -1,10 +1,10 @@
--- Past the end there is no byte. Assumes nothing.
+-- `places::byte_at` meets its contract: past the end `getD` has the 0 too. Assumes nothing.
 use mathlib.Core.Path.{sym}
 use borrow.Author.Needs.{needs}
 use denote.Ref.{now}
 use lib.ListN.{List·getD-eq-default}
-use Rattle.packing.proofs.parts.byte_at.Statement.{statement}
-use Rattle.packing.proofs.parts.byte_at.Tie as tie
+use Rattle.places.proofs.byte_at.Statement.{statement}
+use Rattle.places.proofs.byte_at.Tie as tie
 
 shared-slice-read-result : tie.Need-shared-slice-read-result
 shared-slice-read-result c = search needs
@@ -13,7 +13,7 @@ returns : tie.Need-returns
 returns c = search needs
 
 returns-2 : tie.Need-returns-2
-returns-2 c = sym (List·getD-eq-default (now (c .before .args .from)) 0 {n = c .before .args .i} (c .if1 .left))
+returns-2 c = sym (List·getD-eq-default (now (c .before .args .text)) 0 {n = c .before .args .at} (c .if1 .left))
 
 pub byte-at-spec : {M : Type 1} → statement M
 byte-at-spec = tie.close (tie.spec shared-slice-read-result returns returns-2)
