@@ -108,10 +108,10 @@ def stops(name, n, others, text):
 messages()
 chain()
 short_texts()
-signature_bytes = bytes((3 + 7 * i) % 256 for i in range(64))
-texts("key", bytes(range(200, 232)), base64.b64encode(signature_bytes)[:46], key)
+key_bytes, signature_bytes = bytes(range(200, 232)), bytes((3 + 7 * i) % 256 for i in range(64))
+key_text, signature_text = base64.b64encode(key_bytes), base64.b64encode(signature_bytes)
+texts("key", key_bytes, signature_text[:46], key)
 texts("signature", signature_bytes, b"AA", signature)
-key_text, signature_text = base64.b64encode(bytes(range(200, 232))), base64.b64encode(signature_bytes)
 stops(
     "key",
     32,
