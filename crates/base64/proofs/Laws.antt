@@ -11,7 +11,7 @@ use Rattle.octets.specs.Choice.{pick}
 use Rattle.base64.specs.Base64.{first4, holdsOne, holdsTwo, holdsThree, isBase64, base64Bytes}
 use Rattle.base64.specs.Decoding.{Decoded, answered, decoded}
 use Rattle.base64.specs.Places.{groups, checked}
-use Rattle.base64.specs.declared.Checked.{Checked}
+use Rattle.places.specs.declared.Checked.{Checked}
 use Rattle.base64.proofs.Computed.{both-left, both-right}
 
 -- n bytes are n bytes

@@ -10,7 +10,7 @@ use lib.Seq.{drop-drop}
 use Rattle.base64.specs.Base64.{first4, joinedLetters, isBase64}
 use Rattle.base64.specs.Groups.{standingOf, groupOf}
 use Rattle.base64.specs.Places.{bytesBefore, bytesLeft, standingFrom, viableLength, checked}
-use Rattle.base64.specs.declared.Checked.{Checked}
+use Rattle.places.specs.declared.Checked.{Checked}
 use Rattle.base64.specs.declared.Group.{Group}
 use Rattle.base64.proofs.Groups.{first4-from}
 use Rattle.base64.proofs.Texts.{apart, stands-to, stands-past, stands-ended, fails-in, holds-on, long-enough}

@@ -13,7 +13,7 @@ use Rattle.octets.specs.Viable.{LongestViable}
 use Rattle.base64.specs.Base64.{first4, isBase64, textOf}
 use Rattle.base64.specs.Groups.{standingOf}
 use Rattle.base64.specs.Places.{groups, bytesBefore, bytesLeft, standsIn, mayStand, standingFrom, viableLength, checked}
-use Rattle.base64.specs.declared.Checked.{Checked}
+use Rattle.places.specs.declared.Checked.{Checked}
 use Rattle.base64.proofs.Computed.{both-left, both-right}
 use Rattle.base64.proofs.Laws.{text-length}
 use Rattle.base64.proofs.Texts.{stands4, stand-next, stand-none, stands-lead, text-by-groups, stands-to, stands-past, stands-ended, holds-on, long-enough}

@@ -6,7 +6,7 @@ use Prim.Native.Nat.{ℕ, suc, _+_, _-_, _*_, _/_, _%_}
 use lib.Dec.{eqb, leb, ltb}
 use Rattle.octets.specs.Choice.{pick}
 use Rattle.base64.specs.Base64.{letterValue, padCharacter, isBase64}
-use Rattle.base64.specs.declared.Checked.{Checked}
+use Rattle.places.specs.declared.Checked.{Checked}
 
 -- A text of n bytes has a group for each three of them, and one for what is left over: 11 groups for 32 bytes, 22 for 64.
 abbrev pub groups : ℕ → ℕ

@@ -1,4 +1,5 @@
 // Base64 with padding (RFC 4648, section 4), of a number of bytes that is known beforehand, read a group of four characters at a turn.
+use places::Checked;
 ghost use mathlib.Core.Bool.{true};
 ghost use mathlib.Core.Path.{_≡_};
 ghost use Prim.Native.Nat.{_<_};
@@ -8,12 +9,6 @@ ghost use Rattle.base64.specs.Base64.{letterValue, isBase64, base64Bytes
 ghost use Rattle.base64.specs.Places.{standsAs, checked};
 ghost use Rattle.base64.specs.Groups.{inRange, groupOf};
 ghost use Rattle.base64.specs.Decoding.{answered, decoded};
-
-// Whether a text is good, and how many of its first characters some good text also has.
-pub struct Checked {
-    pub good: bool,
-    pub at: usize,
-}
 
 // How many of four characters may stand where they do, up to the first that may not; and the 24 bits of all four, padding as zeros.
 struct Group {
@@ -33,7 +28,7 @@ fn in_range(b: u8, low: u8, high: u8, base: u32, other: u32) -> u32
 }
 
 // A letter's value, and 64 for any other byte. All five tests are made of each byte: which of them a letter meets cannot be foreseen.
-fn value(b: u8) -> u32
+pub fn value(b: u8) -> u32
     ensures { λ r. ⌜ r ≡ letterValue b ⌝ }
 {
     let slash = in_range(b, b'/', b'/', 63, 64);

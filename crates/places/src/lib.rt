@@ -14,6 +14,12 @@ pub struct Span {
     pub end: usize,
 }
 
+// Whether a text is good, and how many of its first bytes some good text also has.
+pub struct Checked {
+    pub good: bool,
+    pub at: usize,
+}
+
 pub fn least(a: usize, b: usize) -> usize
     ensures { λ r. ⌜ r ≡ min a b ⌝ }
 {

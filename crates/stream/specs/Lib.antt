@@ -12,5 +12,8 @@ pub mod Events
 pub mod Head
 pub mod Blocks
 pub mod Trailer
+pub mod Forms
+pub mod GoodText
+pub mod Places
 pub mod Stream
 pub mod Buffers

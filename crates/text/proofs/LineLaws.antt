@@ -18,11 +18,11 @@ use Rattle.text.proofs.SameLaws.{both-true, both-false, eqb-sym, starts
 
 -- ---- CR LF at a place
 
-crlf-two : (b c : ℕ) (l : List ℕ) → startsWith crlf (b ∷ c ∷ l) ≡ eqb b 13 && eqb c 10
+pub crlf-two : (b c : ℕ) (l : List ℕ) → startsWith crlf (b ∷ c ∷ l) ≡ eqb b 13 && eqb c 10
 unfolding startsWith same
 crlf-two b c l = rw (eqb-sym 13 b, eqb-sym 10 c, both-true (eqb c 10))
 
-crlf-one : (b : ℕ) → startsWith crlf (b ∷ []) ≡ false
+pub crlf-one : (b : ℕ) → startsWith crlf (b ∷ []) ≡ false
 unfolding startsWith same
 crlf-one b = both-false (eqb 13 b)
 
@@ -51,11 +51,11 @@ ends-twice s h =
 
 -- ---- how long a line is
 
-line-cons : (b : ℕ) (l : List ℕ) → startsWith crlf (b ∷ l) ≡ false → lineLength (b ∷ l) ≡ suc (lineLength l)
+pub line-cons : (b : ℕ) (l : List ℕ) → startsWith crlf (b ∷ l) ≡ false → lineLength (b ∷ l) ≡ suc (lineLength l)
 unfolding lineLength
 line-cons b l e = rw (e, lineLength)
 
-line-break : (b : ℕ) (l : List ℕ) → startsWith crlf (b ∷ l) ≡ true → lineLength (b ∷ l) ≡ 0
+pub line-break : (b : ℕ) (l : List ℕ) → startsWith crlf (b ∷ l) ≡ true → lineLength (b ∷ l) ≡ 0
 unfolding lineLength
 line-break b l e = rw (e, lineLength)
 
@@ -111,7 +111,7 @@ splits b (c ∷ l) = go (eqb b 13 && eqb c 10) refl (splits c l)
     go false e h = rw (line-cons b (c ∷ l) (crlf-two b c l ∙ e), suc-add, lines-by b c l false e, h)
 
 -- a line that does not go to the text's end has CR LF after it
-ends-within : (l : List ℕ) → lineLength l < length l → lineLength l + 2 ≤ length l
+pub ends-within : (l : List ℕ) → lineLength l < length l → lineLength l + 2 ≤ length l
 unfolding lineLength
 ends-within [] h = absurd (omega arith)
 ends-within (b ∷ []) h = absurd (omega (arith, line-cons b [] (crlf-one b)))

@@ -11,7 +11,7 @@ use denote.Ref.{now}
 use lib.ListN.{length, take, drop}
 use Rattle.base64.specs.Base64.{isBase64, base64Bytes}
 use Rattle.base64.specs.Places.{groups, bytesBefore, standingFrom, viableLength, checked}
-use Rattle.base64.specs.declared.Checked.{Checked}
+use Rattle.places.specs.declared.Checked.{Checked}
 use Rattle.base64.proofs.Groups.{turn, turn-length, turns-end}
 use Rattle.base64.proofs.Turns.{ReadAt, read-at, stops-here, goes-on, ends-here}
 use Rattle.base64.proofs.read.Statement.{statement}

@@ -1,0 +1,2 @@
+pub mod Scanner
+pub mod Form

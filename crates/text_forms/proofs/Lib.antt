@@ -1,0 +1,12 @@
+pub mod Parts
+pub mod Templates
+pub mod Signatures
+pub mod Lines
+pub mod ChunkLines
+pub mod HeadLines
+pub mod SingleLines
+pub mod FirstEnds
+pub mod Ends
+pub mod Trailers
+pub mod Heads
+pub mod Exact
