@@ -109,6 +109,16 @@ static void short_feed(const struct plan *plan, const uint8_t *bytes, size_t len
     must(memcmp(before, l->state, sizeof before) == 0, "a refusal with 2 leaves the state");
 }
 
+/* Only a wrong head and a wrong frame have a place. It is within what was taken, and within the longest section. */
+static void check_place(uint64_t taken) {
+    uint64_t refusal = first_number(), place = second_number();
+    if (refusal == OUINET_READER_BAD_HEAD || refusal == OUINET_READER_BAD_FRAME) {
+        must(place <= taken && place <= OUINET_READER_HEAD_SIZE, "the place of a refusal is within its section");
+    } else {
+        must(place == 0, "another refusal has no place");
+    }
+}
+
 /* The word with all it carries, and what is handed out after it. */
 static void tell(struct told *told, uint8_t word) {
     static const uint8_t uri[] = "X-Ouinet-URI";
@@ -124,6 +134,7 @@ static void tell(struct told *told, uint8_t word) {
         digest(told, l->block, block);
     }
     if (word == OUINET_READER_CLOSED) must(first == told->body, "the total is that of the blocks");
+    if (word == OUINET_READER_REFUSED) check_place(told->place);
     if (word == OUINET_READER_QUESTION) digest(told, l->question, first);
     if (word == OUINET_READER_HEAD) {
         size_t length = ouinet_reader_value(l->state, OUINET_READER_STATE_SIZE, l->head, OUINET_READER_HEAD_SIZE, uri,
@@ -193,6 +204,7 @@ static void forged(const struct plan *plan, const uint8_t *bytes, size_t size) {
              "a block lies within its buffer");
         must(word != OUINET_READER_QUESTION || first_number() <= OUINET_READER_QUESTION_SIZE, "so does a question");
         must(word != OUINET_READER_BLOCK || second_number() <= OUINET_READER_BLOCK_SIZE, "and the block that a word names");
+        must(word != OUINET_READER_REFUSED || second_number() <= OUINET_READER_BLOCK_SIZE, "and the place of a refusal");
         feature_of_word(word, first_number());
         bytes += taken;
         size -= taken;

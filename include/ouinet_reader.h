@@ -83,12 +83,19 @@ extern "C" {
 #define OUINET_READER_HEAD 2     /* the head is accepted; first: its status */
 #define OUINET_READER_BLOCK 3    /* a block is handed out; first: its place in the body; second: its length */
 #define OUINET_READER_CLOSED 4   /* the framing ended well, which does not say that the body is complete; first: the bytes of the body. Final */
-#define OUINET_READER_REFUSED 5  /* first: the number of the refusal. Final, but for the first two */
+#define OUINET_READER_REFUSED 5  /* first: the number of the refusal; second: with 3 and 6 its place, see there. Final, but for the first two */
 
 /* Returned where the buffer of the state or of the result is too short. Nothing was changed, and no result written. */
 #define OUINET_READER_SHORT 255
 
-/* ---- refusals. The first two answer a call and change nothing; with the others the stream is over. */
+/* ---- refusals. The first two answer a call and change nothing; with the others the stream is over.
+ *
+ * OUINET_READER_BAD_HEAD and OUINET_READER_BAD_FRAME have a place, the second number of the result, counted from the first byte of the head, chunk
+ * line, end of data or trailer. Where its text is wrong, the place is the length of the longest beginning that some good text has too, however
+ * long as a whole and with its line ends: the byte there is the first that cannot stand where it does. Where the cause is another one
+ * (no end within the limit, over 64 fields, a name doubled), the place is the length of the section as far as it was taken. No end goes before
+ * wrong text, and that before fields. With all other refusals the second number is 0.
+ */
 
 #define OUINET_READER_NOT_DUE 1       /* feed or end with a question open; answer with none open; any call after a final word */
 #define OUINET_READER_NO_ROOM 2       /* head, block or question buffer too short, or the ring's length wrong; tested before 1 */
@@ -132,7 +139,7 @@ extern "C" {
  *     no byte of these buffers beyond the three sizes is read or written.
  *
  * But what such a state hands out proves nothing, and the number of a key's record is what the state says: hold it against the ring before
- * it is used as an index.
+ * it is used as an index. Nor does the place of a refusal say anything about a stream then.
  */
 
 /* ---- calls */

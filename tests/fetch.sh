@@ -1,6 +1,6 @@
 #!/usr/bin/env bash
 # Signer, relay and oui-fetch together, with real Ed25519: what is sent is what comes out, however it is cut; a stream that is cut off,
-# changed on its way or signed by someone else is refused, and leaves only its verified beginning.
+# changed on its way or signed by someone else is refused, and leaves only its verified beginning; where a text went wrong is told and shown.
 set -uo pipefail
 shopt -s lastpipe # so that a fetch at the end of a pipe can set its status
 cd "$(dirname "$0")/.."
@@ -31,6 +31,16 @@ ended() {
     [ "$status" -eq "$1" ] && [ "$(wc -l <said)" -eq 1 ] && [[ $(cat said) == "oui-fetch: $2"* ]]
 }
 
+# told WORDS LINE..: whether the last fetch was refused, and said just this on standard error: the words, and these lines under them.
+told() {
+    [ "$status" -eq 1 ] && { printf 'oui-fetch: %s\n' "$1"; shift; [ $# -eq 0 ] || printf '    %s\n' "$@"; } | cmp -s - said
+}
+
+# offset TEXT: where in the file `stream` the text first stands.
+offset() {
+    LC_ALL=C grep -abo -e "$1" stream | head -n 1 | cut -d : -f 1
+}
+
 # is_beginning: whether what came out is a beginning of the show, and not all of it.
 is_beginning() {
     local length
@@ -51,6 +61,11 @@ for wrong in '--block-size 0' '--block-size 65537' '--id a.b' '--ts 100000000000
     oui-sign sign key ring ${wrong% *} "${wrong##* }" -o none 2>said
     expect "oui-sign $wrong" test $? -eq 2 -a ! -e none
 done
+
+oui-sign sign key ring --uri $'show\r\nA: b' -o none 2>said
+expect 'a line end in a value' test $? -eq 2 -a ! -e none -a "$(cat said)" = "oui-sign: --uri: \\r at offset 4 may not stand in a field's value"
+oui-sign sign key ring --type 'text/plain ' -o none 2>said
+expect 'a blank at the end of a value' test $? -eq 2 -a ! -e none -a "$(cat said)" = "oui-sign: --type: a field's value has no blanks at its ends"
 
 # What is sent comes out
 seed=0
@@ -93,7 +108,8 @@ for place in 0 1 500 1000 66000 70000 132000 290000 $((size - 1)); do
     [ "$place" -eq $((size - 1)) ] || expect "a beginning after $place" is_beginning
 done
 oui-relay --stop-after 100000 <stream | fetch --json >events
-expect 'a refusal as JSON' test "$(tail -n 1 events)" = '{"event":"refused","number":11,"meaning":"the stream stops before its end"}'
+expect 'a refusal as JSON' test "$(tail -n 1 events)" = \
+    '{"event":"refused","number":11,"meaning":"the stream stops before its end","at":null,"stream_offset":null}'
 
 # Changed on its way: in a block, in a signature, in a signed field, in a chunk's size
 start=$(grep -abo $'^10000\r' stream | head -n 1 | cut -d : -f 1)
@@ -106,10 +122,104 @@ uri=$(grep -abo 'example.com/a' stream | head -n 1 | cut -d : -f 1)
 oui-relay --change "$uri" <stream | fetch
 expect 'changed in the head' ended 1 'refused 10: a signature is wrong'
 expect 'nothing comes out' test ! -s got
+# A size of 0: what follows is taken for the trailer
 oui-relay --change "$start" <stream | fetch
-expect 'changed in a size' ended 1 'refused '
+expect 'changed in a size' test "$status" -eq 1
+expect 'in words' grep -q "^oui-fetch: refused 6: the trailer, from offset $((start + 7)) of the stream, has no end within 8,192 bytes; nothing" said
+expect 'nothing of its bytes comes out' test ! -s got
+
+# Where a text went wrong
+printf 'Hello world!' >show
+oui-sign sign key show -o good --block-size 5 --id me-1 --ts 1700000000
+uri='X-Ouinet-URI: https://example.com/show'
+
+# spoil SED..: the stream with an edit, then a fetch of it in small pieces.
+spoil() {
+    LC_ALL=C sed "$@" good >stream
+    oui-relay --most 9 <stream | fetch
+}
+
+spoil 's/^X-Ouinet-URI:/X-Ouinet-URI :/'
+expect 'a blank in a name' told 'refused 3: the text of the head goes wrong at offset 50 of the stream (line 3, column 13); nothing was verified' \
+    'X-Ouinet-URI : https://example.com/show\r\n' '            ^'
+spoil $'s|^X-Ouinet-URI: https|X-Ouinet-URI:\t\\\\\x1b[2J\x01|'
+expect 'control bytes, a tab and a backslash' told \
+    'refused 3: the text of the head goes wrong at offset 53 of the stream (line 3, column 16); nothing was verified' \
+    'X-Ouinet-URI:\t\\\x1b[2J\x01://example.com/show\r\n' '                 ^^^^'
+spoil '1s/200/20/'
+expect 'two digits of a status' told \
+    'refused 3: the text of the head goes wrong at offset 11 of the stream (line 1, column 12); nothing was verified' \
+    'HTTP/1.1 20 OK\r\n' '           ^'
+spoil '3s/\r//'
+expect 'a lost CR' told 'refused 3: the text of the head goes wrong at offset 76 of the stream (line 3, column 39); nothing was verified' \
+    '...-URI: https://example.com/show\nX-Ouinet-Injection: id=me-1,ts=170000000...' '                                 ^^'
+long=$(printf '%0200d' 0)
+spoil "s|^$uri|$uri$long~$long|;s/~/\\x7f/"
+expect 'a byte far into a line' told \
+    'refused 3: the text of the head goes wrong at offset 276 of the stream (line 3, column 239); nothing was verified' \
+    "...${long:0:30}\\x7f${long:0:38}..." '                                 ^^^^'
+spoil '2s/$/\nVary: a\r\nDate: now\r\nvARY: b\r/'
+expect 'a field twice' told 'refused 3: the head has one field twice, in lines 3 and 5; nothing was verified' 'vARY: b\r\n' '^^^^'
+many=$(for i in $(seq 60); do printf 'F%d:\\r\\n' "$i"; done)
+spoil "2s/^/$many/"
+expect 'too many fields' told 'refused 3: the head has 67 fields, and 64 are the most; nothing was verified'
+spoil "2s/^/${many}A b\\r\\n/"
+expect 'too many fields and a wrong line' grep -q '^oui-fetch: refused 3: the text of the head goes wrong at offset .* (line 62, column 2); ' said
+printf '<html>\n%09000d' 0 >stream
+fetch stream
+expect 'no head at all' told 'refused 3: the head has no end within 8,192 bytes; nothing was verified' "<html>\n${long:0:64}..."
+
+spoil 's/^2;ouisig/2;Ouisig/'
+line=$(LC_ALL=C grep -a '^2;Ouisig' stream)
+expect 'a chunk line' told \
+    "refused 6: the text of a chunk line goes wrong at offset $(($(offset '^2;Ouisig') + 2)) of the stream; the 5 bytes before were verified" \
+    "${line:0:72}..." '  ^'
+expect 'its verified beginning' test "$(cat got)" = Hello
+spoil '/^2;ouisig=/s/==/A&/'
+line=$(LC_ALL=C grep -a '^2;ouisig' stream | tr -d '\r')
+expect 'a signature that is too long' told \
+    "refused 6: the text of a chunk line goes wrong at offset $(($(offset '^2;ouisig') + 9 + 86)) of the stream; the 5 bytes before were verified" \
+    "...${line:30}\\r\\n" "$(printf '%69s' ^)"
+spoil 's/^2;ouisig=/&'"$long/"
+line=$(LC_ALL=C grep -a '^2;ouisig' stream)
+expect 'a line without an end' told \
+    "refused 6: the chunk line at offset $(offset '^2;ouisig') of the stream has no end within 128 bytes; the 5 bytes before were verified" \
+    "${line:0:72}..."
+spoil 's/^Hello\r/HelloX/'
+expect 'a data end' told "refused 6: a chunk's data is not followed by CR LF, at offset $(($(offset HelloX) + 5)) of the stream; nothing was verified" \
+    'X\n' '^'
+spoil $'s/^Hello\r/Hello\rX/'
+expect 'half a data end' told \
+    "refused 6: a chunk's data is not followed by CR LF, at offset $(($(offset Hello) + 6)) of the stream; nothing was verified" '\rX' '  ^'
+{ head -c -2 good; printf 'A: b\r\n\rC: d\r\n\r\n'; } >stream
+fetch --json stream >events
+expect 'a trailer' told \
+    "refused 6: the text of the trailer goes wrong at offset $(($(offset 'A: b') + 7)) of the stream (line 2, column 2); the 12 bytes before were verified" \
+    '\rC: d\r\n' '  ^'
+expect 'its verified body' cmp -s show got
+expect 'a place as JSON' test "$(tail -n 1 events)" = '{"event":"refused","number":6,"meaning":"the body'"'"'s framing is broken: a chunk line, '\
+'the end of a chunk or the trailer is wrong","at":7,"stream_offset":'$(($(offset 'A: b') + 7))'}'
+fetch --quiet stream
+expect 'quiet about it' test "$status" -eq 1 -a ! -s said
+
+# noise SEED: 300 bytes or fewer, the same for a seed each time, without line feeds.
+noise() {
+    LC_ALL=C awk -v seed="$1" 'BEGIN { srand(seed); for (n = 0; n < 300; n++) { b = int(256 * rand()); if (b != 10) printf "%c", b } }'
+}
+
+# Whatever comes, what is shown of it is printable
+for front in '' 'HTTP/1.1 200 OK\r\n' 'HTTP/1.1 200 OK\r\nA: b\r\n'; do
+    for i in 1 2 3 4 5; do
+        { printf "$front"; noise "$i"; printf '\r\n\r\n'; } >stream
+        fetch stream
+        expect "noise $i after '$front'" test "$status" -eq 1 -a "$(wc -l <said)" -eq 3 -a ! -s got
+        expect "printable $i after '$front'" eval '! LC_ALL=C grep -q "[^ -~]" said'
+        expect "the mark is under a byte $i after '$front'" awk 'NR == 2 { shown = length } NR == 3 { good = /^ *\^+$/ && length <= shown } END { exit !good }' said
+    done
+done
 
 # Signed by someone else, or at another time
+oui-sign sign key show -o stream --ts 1700000000
 oui-sign key other >ring
 fetch stream
 expect 'another key' ended 1 'refused 12: the key is not trusted'

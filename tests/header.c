@@ -1,8 +1,8 @@
 /*
  * include/ouinet_reader.h and the library behind it, from C: the example stream of crates/ouiread/data goes through in pieces of one
- * size, and what is said must be the lines of crates/ouiread/stdout; then the sizes that the header names, each beside one that is one
- * byte short; then forged states, in buffers that are longer than named and marked beyond. tests/header.sh builds and runs it. Its last
- * line is 'N passed, M failed'.
+ * size, and what is said must be the lines of crates/ouiread/stdout; then wrong texts, and the place that is told of each; then the sizes that
+ * the header names, each beside one that is one byte short; then forged states, in buffers that are longer than named and marked beyond.
+ * tests/header.sh builds and runs it. Its last line is 'N passed, M failed'.
  */
 #include "ouinet_reader.h"
 
@@ -126,6 +126,11 @@ static void sit(const uint8_t *stream, size_t length, const char *answers, size_
     expect("the whole stream was taken", at == length);
 }
 
+/* Whether a refusal has no place, which is so with all but 3 and 6. */
+static int has_no_place(void) {
+    return number(result + OUINET_READER_RESULT_SECOND) == 0;
+}
+
 /* The first question alone: its signature, and the state's layout as far as the example fills it. */
 static void look_inside(const uint8_t *stream, size_t length) {
     uint8_t zeros[64] = {0};
@@ -142,10 +147,12 @@ static void look_inside(const uint8_t *stream, size_t length) {
     expect("a feed now is not due", feed(stream, length) == OUINET_READER_REFUSED);
     expect("it is refusal 1, nothing taken", number(result + OUINET_READER_RESULT_FIRST) == OUINET_READER_NOT_DUE && number(result + OUINET_READER_RESULT_TAKEN) == 0);
     expect("no signature with it", !memcmp(result + OUINET_READER_RESULT_SIGNATURE, zeros, 64));
+    expect("and no place", has_no_place());
     expect("any answer but 0 is yes", answer(2) == OUINET_READER_HEAD);
     expect("the head's length is kept", number(state + 24) == head_length && number(state) == 2);
     expect("the first chunk's data", feed(stream + head_length, 5) == OUINET_READER_MORE && number(state) == 3 && number(state + 16) == 5);
     expect("an end there is refusal 11", end() == OUINET_READER_REFUSED && number(result + OUINET_READER_RESULT_FIRST) == OUINET_READER_UNFINISHED);
+    expect("without a place", has_no_place());
     expect("and final: phase 9", number(state) == 9 && number(state + 8) == OUINET_READER_UNFINISHED);
     ouinet_reader_fresh(state, STATE);
     expect("once more to the question", feed(stream, length) == OUINET_READER_QUESTION);
@@ -166,12 +173,80 @@ static void look_up_values(void) {
     expect("of too short a head buffer", ouinet_reader_value(state, STATE, head, sizeof head - 1, (const uint8_t *)type, strlen(type), value, sizeof value) == 0);
 }
 
+/* ---- where a text went wrong */
+
+/* A stream in pieces, all answers yes, up to its last word. How many bytes were taken. */
+static size_t read_all(const uint8_t *stream, size_t length, size_t piece) {
+    size_t at = 0;
+    uint8_t word = OUINET_READER_MORE;
+    ouinet_reader_fresh(state, STATE);
+    while (at < length && word != OUINET_READER_REFUSED && word != OUINET_READER_CLOSED) {
+        word = feed(stream + at, length - at < piece ? length - at : piece);
+        at += (size_t)number(result + OUINET_READER_RESULT_TAKEN);
+        if (word == OUINET_READER_QUESTION)
+            answer(1);
+    }
+    return at;
+}
+
+/* The beginning of a text, its line ends escaped. */
+static void show(char *to, const char *text, size_t length) {
+    size_t i;
+    for (i = 0; i < length && i < 40; i++)
+        to += sprintf(to, text[i] == '\r' ? "\\r" : text[i] == '\n' ? "\\n" : "%c", text[i]);
+}
+
+/* A section behind so many bytes of the example: it is refused when all of it was taken, with this number, at this place. */
+static void refuse(const char *front, size_t front_length, const char *section, size_t length, size_t piece, unsigned refusal, uint64_t place) {
+    static uint8_t stream[16384];
+    size_t taken;
+    char shown[96], what[160];
+    memcpy(stream, front, front_length);
+    memcpy(stream + front_length, section, length);
+    memcpy(stream + front_length + length, "more", 4);
+    taken = read_all(stream, front_length + length + 4, piece);
+    show(shown, section, length);
+    sprintf(what, "'%s' is refused with %u at %u", shown, refusal, (unsigned)place);
+    expect(what, taken == front_length + length && number(result + OUINET_READER_RESULT_WORD) == OUINET_READER_REFUSED &&
+                     number(result + OUINET_READER_RESULT_FIRST) == refusal && number(result + OUINET_READER_RESULT_SECOND) == place);
+}
+
+static void find_places(const char *stream, size_t piece) {
+    static const struct {
+        const char *text;
+        unsigned place;
+    } heads[] = {{"\r\n\r\n", 0}, {"HTTP/1.0 200 OK\r\n\r\n", 7}, {"HTTP/1.1 20\r\n\r\n", 11}, {"HTTP/1.1 2000 OK\r\n\r\n", 12},
+                 {"HTTP/1.1 200 OK\r\nA: b\rc\r\n\r\n", 22}, {"HTTP/1.1 200 OK\r\nA: b\nc\r\n\r\n", 21}, {"HTTP/1.1 200 OK\r\n\rA: b\r\n\r\n", 18},
+                 {"HTTP/1.1 200 OK\r\nA:\r\na:\r\n\r\n", 27}, {"HTTP/1.1 200 OK\r\nA:\r\na:\r\nB\r\n\r\n", 26}},
+      lines[] = {{"\r\n", 0}, {"5 \r\n", 1}, {"5\r\r\n", 2}, {"000000005\r\n", 8}, {"5;OUISIG=\r\n", 2}, {"5;ouisig=\r\n", 9}},
+      ends[] = {{"XY", 0}, {"\rX", 1}}, trailers[] = {{"\rA: b\r\n\r\n", 1}, {"A: b\r\nC d\r\n\r\n", 7}, {"A\r\n\r\n", 1}};
+    size_t body = (size_t)(strstr(stream, "\r\n\r\n") - stream) + 4, i;
+    char front[4096], many[9000];
+    for (i = 0; i < sizeof heads / sizeof *heads; i++)
+        refuse("", 0, heads[i].text, strlen(heads[i].text), piece, OUINET_READER_BAD_HEAD, heads[i].place);
+    for (i = 0; i < sizeof lines / sizeof *lines; i++)
+        refuse(stream, body, lines[i].text, strlen(lines[i].text), piece, OUINET_READER_BAD_FRAME, lines[i].place);
+    for (i = 0; i < sizeof ends / sizeof *ends; i++)
+        refuse(stream, body + strlen("5\r\nHello"), ends[i].text, 2, piece, OUINET_READER_BAD_FRAME, ends[i].place);
+    memcpy(front, stream, body);
+    memcpy(front + body, "0\r\n", 3);
+    for (i = 0; i < sizeof trailers / sizeof *trailers; i++)
+        refuse(front, body + 3, trailers[i].text, strlen(trailers[i].text), piece, OUINET_READER_BAD_FRAME, trailers[i].place);
+    memset(many, 'x', sizeof many);
+    refuse("", 0, many, 8192, piece, OUINET_READER_BAD_HEAD, 8192);
+    refuse(stream, body, many, 128, piece, OUINET_READER_BAD_FRAME, 128);
+    refuse(front, body + 3, many, 8192, piece, OUINET_READER_BAD_FRAME, 8192);
+    memcpy(many + 126, "\r\n", 2);
+    refuse(stream, body, many, 128, piece, OUINET_READER_BAD_FRAME, 0);
+}
+
 static uint8_t feed_with(size_t s, size_t h, size_t b, size_t q, const uint8_t *keys, size_t k, size_t r) {
     return ouinet_reader_feed(state, s, head, h, block, b, question, q, keys, k, ring, 1, result, r);
 }
 
 static int is_refused(uint8_t word, unsigned refusal) {
-    return word == OUINET_READER_REFUSED && number(result + OUINET_READER_RESULT_FIRST) == refusal;
+    int has_place = refusal == OUINET_READER_BAD_HEAD || refusal == OUINET_READER_BAD_FRAME;
+    return word == OUINET_READER_REFUSED && number(result + OUINET_READER_RESULT_FIRST) == refusal && (has_place || has_no_place());
 }
 
 /* Each size that the header names will do, and one byte less will not. */
@@ -320,6 +395,7 @@ int main(int count, char **arguments) {
     look_up_values();
     defy_forged_parts();
     look_inside((const uint8_t *)stream, length);
+    find_places(stream, (size_t)atol(arguments[5]));
     measure();
     defy_forged_calls(0xa5);
     ask_of_forged_block(0xa5, one);

@@ -33,7 +33,7 @@ run() {
     timeout 20 "$ouiread" "$@" >out 2>err
 }
 
-usage='usage: ouiread STREAM RING ANSWERS [CUTS [BODY]] [--tally]'
+usage='usage: ouiread STREAM RING ANSWERS [CUTS [BODY]] [--tally] [--where]'
 run stream ring
 expect 'two arguments' nothing "$usage"
 run stream ring answers cuts body more
@@ -41,6 +41,16 @@ expect 'six arguments' nothing "$usage"
 
 run stream ring --tally
 expect 'two arguments and the tally' nothing "$usage"
+run stream ring answers --wher
+expect 'an unknown option' nothing "$usage"
+run stream ring answers --where --where
+expect 'an option twice' nothing "$usage"
+run stream ring answers --tally --where --tally
+expect 'an option twice, with another between' nothing "$usage"
+run stream ring answers --where cuts
+expect 'an option before a file' nothing "$usage"
+run --where stream ring answers
+expect 'an option before all files' nothing "$usage"
 
 echo 5 >cuts
 { cat nine; echo 'tally blocks 3 bytes 12 closed 1 refused 0'; } >counted
@@ -55,6 +65,36 @@ expect 'a refusal in the tally' counted ''
 printf 'question 219\ntally blocks 0 bytes 0 closed 0 refused 0\n' >counted
 run stream ring nothing --tally
 expect 'no answer in the tally' counted ''
+
+# went_wrong NAME EVENTS REFUSAL: the stream in `wrong` must give so many of the nine events and then the refusal, with its place where --where asks
+# for it, and else without.
+went_wrong() {
+    { head -n "$2" nine; echo "refused $3"; } >placed
+    run wrong ring answers --where
+    expect "$1: where" placed ''
+    { head -n "$2" nine; echo "refused ${3% at *}"; } >placed
+    run wrong ring answers
+    expect "$1: without the option" placed ''
+}
+printf 'HTTP/1.1 20\r\n\r\n' >wrong
+went_wrong 'a status of two digits' 0 '3 at 11'
+head -c 9000 /dev/zero | tr '\0' x >wrong
+went_wrong 'a head without its end' 0 '3 at 8192'
+sed 's/^5\r$/000000005\r/' stream >wrong
+went_wrong 'a size of nine digits' 2 '6 at 8'
+sed 's/^Hello\r$/Hello\r\r/' stream >wrong
+went_wrong 'a data end without its line feed' 2 '6 at 1'
+sed 's/^Digest:/Digest/' stream >wrong
+went_wrong 'a trailer without a colon' 8 '6 at 6'
+sed 's/^X-Ouinet-Version: 4/X-Ouinet-Version: 5/' stream >wrong
+went_wrong 'a refusal that has no place' 0 5
+printf 'question 219\nrefused 10\ntally blocks 0 bytes 0 closed 0 refused 1\n' >counted
+run stream ring no --where --tally
+expect 'both options' counted ''
+run stream ring no cuts --tally --where
+expect 'both options, the other way round' counted ''
+run stream ring answers --where
+expect 'no refusal' nine ''
 
 for file in stream ring answers cuts; do
     echo 5 >cuts

@@ -1,9 +1,11 @@
 #!/usr/bin/env python3
 """Writes the heads and what must be said of each: `python3 cases.py`, run in this folder, writes `stdin` and `stdout`.
 
-The number of each refusal stands here by hand, from the rules. What a good head asks is put together from the parts that it was made of.
+The number of each refusal stands here by hand, from the rules; where a text went wrong is found by trying. What a good head asks is put together
+from the parts that it was made of.
 """
 import base64
+import re
 
 FIRST = base64.b64encode(bytes(range(200, 232))).decode()
 OTHER = base64.b64encode(bytes((3 + 7 * i) % 256 for i in range(32))).decode()
@@ -91,8 +93,21 @@ def padded(n, fields):
 CASES = []
 
 
+# Where the text of a head went wrong, found by trying: the longest beginning that one of these ends completes to a good head. From wherever a
+# good head may be cut, one of them does.
+GOOD_HEAD = re.compile(r"HTTP/1\.1 [0-9]{3} [\t -~\x80-\xff]*\r\n([!#$%&'*+\-.^_`|~0-9A-Za-z]+:[\t -~\x80-\xff]*\r\n)*\r\n")
+ENDS = [end[i:] for end in ("HTTP/1.1 000 \r\n\r\n", "a:\r\n\r\n") for i in range(len(end) + 1)]
+
+
+def place(head):
+    if not head.endswith("\r\n\r\n"):
+        return len(head)
+    return max(n for n in range(len(head) + 1) if any(GOOD_HEAD.fullmatch(head[:n] + end) for end in ENDS))
+
+
 def refused(number, label, head):
-    CASES.append((label, head, f"{label} refused {number}\n"))
+    at = f" at {place(head)}" if number == 3 else ""
+    CASES.append((label, head, f"{label} refused {number}{at}\n"))
 
 
 def broken(number, label, fields, status=OK):
@@ -384,6 +399,9 @@ def order():
     broken(3, "order-name-twice-and-version", old + [("Date", "x")])
     broken(3, "order-65-fields-and-version", old + numbered(56))
     broken(3, "order-name-twice-and-version-absent", without("X-Ouinet-Version") + [("Date", "x")])
+    broken(3, "order-text-after-65-fields", GOOD + numbered(56) + [("Server ", "x")])
+    broken(3, "order-text-after-a-name-twice", GOOD + [("Date", "x"), ("Server ", "x")])
+    broken(3, "order-65-fields-and-name-twice", GOOD + numbered(56) + [("Date", "x")])
     broken(3, "order-last-field-and-status", GOOD + [("Server ", "x")], "HTTP/1.1 404 Not Found")
     broken(3, "order-status-line-and-trust", signed_by(STRANGE, TIME), "HTTP/1.0 200 OK")
     broken(4, "order-version-absent-and-trust", [f for f in signed_by(STRANGE, TIME) if f[0] != "X-Ouinet-Version"])

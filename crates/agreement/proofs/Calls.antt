@@ -12,6 +12,8 @@ use Rattle.blocks.specs.Place.{largest}
 use Rattle.sections.specs.Reading.{Event, question, message, last}
 use Rattle.sections.specs.Calls.{Request, feed, answer, end, more, event}
 use Rattle.sections.specs.Machine.{running, asked, finished, Turn, respond}
+use Rattle.refusals.specs.Refusals.{plain}
+use Rattle.refusals.specs.declared.Refusal.{Refusal}
 use Rattle.stream.specs.Events.{Question, Release, headAccepted, block, LastWord}
 use Rattle.stream.specs.Events as E
 use Rattle.stream.specs.Head.{headOf, statusDigits, signedOf}
@@ -78,20 +80,20 @@ module _ (ring : Ring) (h : Handed) where
   -- ---- the end
 
   -- a refusal with no block handed out
-  refused-follows : (r : Request) (n count : ℕ) (d : Configuration) → 3 ≤ n → Lent d (h .signed) → d .reader .released ≡ 0 → blockLeft r (h .released) ≡ []
-      → CallFollows ring h r (given 0 (refuse n count d)) ((event (last (E.refused n)), 0), finished)
+  refused-follows : (r : Request) (why : Refusal) (count : ℕ) (d : Configuration) → 3 ≤ why .number → Lent d (h .signed) → d .reader .released ≡ 0 → blockLeft r (h .released) ≡ []
+      → CallFollows ring h r (given 0 (refuse why count d)) ((event (last (E.refused (why .number) (why .at))), 0), finished)
   unfolding refuse
-  refused-follows r n count d m l z e =
-      follows _ (event (last (E.refused n))) 0 finished
+  refused-follows r why count d m l z e =
+      follows _ (event (last (E.refused (why .number) (why .at)))) 0 finished
       (record { stands = F.refused; lent = still l _ refl refl (length-cleared count (d .block)) refl refl; block = rw (z, e) refl })
-      (seen-final n _ _ m) refl
+      (seen-final why _ _ m) refl
 
   pub end-follows : (d : Configuration) (s : Standing) → Holds ring d h s
-      → CallFollows ring h end (pick (isReading (d .reader .phase)) (given 0 (refuse 11 (pending (d .reader .phase)) (recalled d))) (unchanged 1 d)) (respond (rules ring) s end)
+      → CallFollows ring h end (pick (isReading (d .reader .phase)) (given 0 (refuse (plain 11) (pending (d .reader .phase)) (recalled d))) (unchanged 1 d)) (respond (rules ring) s end)
   unfolding respond rules
   end-follows d (running c g) k =
       rw (reading-phase (k .stands))
-      (refused-follows end 11 (pending (d .reader .phase)) (recalled d) (omega arith) (still (k .lent) _ refl refl refl refl refl) refl refl)
+      (refused-follows end (plain 11) (pending (d .reader .phase)) (recalled d) (omega arith) (still (k .lent) _ refl refl refl refl refl) refl refl)
   end-follows d (asked y) k = rw (asked-phase (k .stands)) (unchanged-follows 1 d (asked y) refl k)
   end-follows d finished k = rw (finished-phase (k .stands)) (unchanged-follows 1 d finished refl k)
 
@@ -128,7 +130,7 @@ module _ (ring : Ring) (h : Handed) where
         let v = accepted-holds .lent .value in
         follows _ (event (message (headAccepted (decimalValue (statusDigits (headOf l))) (signedOf (headOf l))))) 0 _ accepted-holds
         (λ i. event (message (Shown.headAccepted (a .status i) (λ name. v name i)))) refl
-    head-answer-follows false = refused-follows (answer false) 10 0 d (omega arith) lent (a .taken) none
+    head-answer-follows false = refused-follows (answer false) (plain 10) 0 d (omega arith) lent (a .taken) none
 
   -- ---- an answer to a block's question
 
@@ -162,7 +164,7 @@ module _ (ring : Ring) (h : Handed) where
         let n : size ≡ length b = sym (a .bytes .count) in
         let t : blockPart (d .block) size ≡ b = part-is (d .block) size (lent .block) ∙ a .bytes .bytes in
         rw m (follows _ (event (message (block (blockOffset s p) b))) 0 _ released-holds (λ i. event (message (Shown.block (o i) (n i) (t i)))) refl)
-    block-answer-follows false = refused-follows (answer false) 10 size d (omega arith) lent (a .taken) none
+    block-answer-follows false = refused-follows (answer false) (plain 10) size d (omega arith) lent (a .taken) none
 
   -- ---- any answer
 

@@ -11,9 +11,11 @@ use lib.Seq.{take-suc}
 use Rattle.octets.specs.Choice.{pick}
 use Rattle.sections.specs.Reading.{go, stop}
 use Rattle.sections.specs.Machine.{ruling, gathered, step}
+use Rattle.refusals.specs.Refusals.{placed}
 use Rattle.stream.specs.Bytes.{same}
 use Rattle.stream.specs.Events.{refused}
 use Rattle.stream.specs.Lines.{Field, crlf}
+use Rattle.stream.specs.Places.{dataEndPlace}
 use Rattle.stream.specs.Ring.{Ring}
 use Rattle.stream.specs.Stream.{Show, Past, isWhole, judge, judgeDataEnd, rules}
 use Rattle.stream.specs.Stream as C
@@ -68,17 +70,17 @@ module _ (ring : Ring) (fields : List Field) (d : Configuration) (x : ℕ) (lent
   -- ---- the CR LF after it
 
   module _ (size : ℕ) (b : List ℕ) (u : Under d s p size b) where
-    end-by : (t : Bool) → Follows ring fields (pick t (on (moved d (P.NextLine 0 size))) (refuse 6 size d))
-        (ruling (elim t [ true ↦ go (C.nextLine s p b) | false ↦ stop (refused 6) ]))
+    end-by : (l : List ℕ) (t : Bool) → Follows ring fields (pick t (on (moved d (P.NextLine 0 size))) (refuse (placed 6 (dataEndPlace l)) size d))
+        (ruling (elim t [ true ↦ go (C.nextLine s p b) | false ↦ stop (refused 6 (dataEndPlace l)) ]))
     unfolding isWhole
-    end-by true =
+    end-by l true =
         F.on
         (record {
           stands = F.nextLine (under-on _ _ _ refl refl u) (none-gathered (d .reader .line)) (not-whole-empty (C.nextLine s p b) (u .sound));
           lent = still lent _ refl refl refl refl refl;
           taken = none;
         })
-    end-by false = refuses 6 size d (omega arith) lent none
+    end-by l false = refuses _ size d (omega arith) lent none
 
     pub end-step : (have : ℕ) (g : List ℕ) → Gathered (d .reader .line) have g → isWhole (C.dataEnd s p b) g ≡ false
         → Follows ring fields (pushDataEnd d have size x) (step (rules ring) (C.dataEnd s p b) g x)
@@ -95,5 +97,5 @@ module _ (ring : Ring) (fields : List Field) (d : Configuration) (x : ℕ) (lent
     end-step (suc zero) g a e =
         let h : 0 < length (d .reader .line) = rw (lent .line) (omega arith) in
         let f : g ≡ getD (d .reader .line) 0 0 ∷ [] = sym (a .bytes) ∙ take-suc (d .reader .line) 0 0 h in
-        rw f (end-by (same (getD (d .reader .line) 0 0 ∷ x ∷ []) crlf))
+        rw f (end-by (getD (d .reader .line) 0 0 ∷ x ∷ []) (same (getD (d .reader .line) 0 0 ∷ x ∷ []) crlf))
     end-step (suc (suc n)) g a e = absurd (omega (arith, short (C.dataEnd s p b) g e, a .count))

@@ -10,6 +10,7 @@ use lib.ListN.{length, take, set, getD}
 use Rattle.octets.specs.Choice.{pick}
 use Rattle.chunk.specs.Judging.{lineJudged, unlessFault, goodLine}
 use Rattle.sections.specs.Calls.{answer}
+use Rattle.refusals.specs.declared.Refusal.{Refusal}
 use Rattle.stream.specs.Blocks.{isWholeLine, lineFault, chunkSize}
 use Rattle.stream.specs.Bytes.{same}
 use Rattle.stream.specs.Head.{headOf, headFault, trustedBy, isWholeHead}
@@ -43,9 +44,9 @@ fine-pick : (t : Bool) (m n : Next) → Fine m → Fine n → Fine (pick t m n)
 fine-pick true m n a b = a
 fine-pick false m n a b = b
 
-pub fine-refuse : (n count : ℕ) (d : Configuration) → 3 ≤ n → Fine (refuse n count d)
+pub fine-refuse : (why : Refusal) (count : ℕ) (d : Configuration) → 3 ≤ why .number → Fine (refuse why count d)
 unfolding refuse
-fine-refuse n count d h = of-stream n h
+fine-refuse why count d h = of-stream (why .number) h
 
 fine-picked : (t : Bool) (p q : Phase) → isReading p ≡ true → isReading q ≡ true → isReading (pick t p q) ≡ true
 fine-picked true p q a b = a
@@ -54,37 +55,37 @@ fine-picked false p q a b = b
 fine-data : (d : Configuration) (have size x : ℕ) → Fine (pushData d have size x)
 unfolding pushData
 fine-data d have size x =
-    fine-pick (leb (length (d .block)) have) _ _ (fine-refuse 6 have d (omega arith))
+    fine-pick (leb (length (d .block)) have) _ _ (fine-refuse _ have d (omega arith))
     (fine-picked (leb size (have + 1)) (P.DataEnd 0 size) (P.Data (have + 1) size) refl refl)
 
 fine-end : (d : Configuration) (have size x : ℕ) → Fine (pushDataEnd d have size x)
 unfolding pushDataEnd
 fine-end d have size x =
-    fine-pick (eqb have 0) _ _ refl (fine-pick (same (getD (d .reader .line) 0 0 ∷ x ∷ []) crlf) _ _ refl (fine-refuse 6 size d (omega arith)))
+    fine-pick (eqb have 0) _ _ refl (fine-pick (same (getD (d .reader .line) 0 0 ∷ x ∷ []) crlf) _ _ refl (fine-refuse _ size d (omega arith)))
 
 -- a line's refusal has a number of the rules
 fine-first : (d : Configuration) (N : ℕ) (l signature : List ℕ) (fault : ℕ) → lineFault N false true 0 l ≡ fault
-    → Fine (firstAnswered d (unlessFault fault (goodLine (chunkSize l) signature) .answer))
+    → Fine (firstAnswered d (unlessFault fault l (goodLine (chunkSize l) signature) .answer))
 unfolding firstAnswered
 fine-first d N l signature zero e = fine-picked (eqb (chunkSize l) 0) (P.Trailer 0 0) (P.Data 0 (chunkSize l)) refl refl
-fine-first d N l signature (suc n) e = fine-refuse (suc n) 0 d (line-number N false true 0 l n e)
+fine-first d N l signature (suc n) e = fine-refuse _ 0 d (line-number N false true 0 l n e)
 
 fine-first-line : (d : Configuration) (have x : ℕ) → Fine (pushFirstLine d have x)
 unfolding pushFirstLine firstGathered lineJudged
 fine-first-line d have x =
-    fine-pick (leb lineLimit have) _ _ (fine-refuse 6 0 d (omega arith))
+    fine-pick (leb lineLimit have) _ _ (fine-refuse _ 0 d (omega arith))
     (fine-pick (isWholeLine (take (have + 1) (set (d .reader .line) have x))) _ _ (fine-first _ (d .reader .fixed .«block_size») _ _ _ refl) refl)
 
 fine-next : (d : Configuration) (size N : ℕ) (full : Bool) (sofar : ℕ) (l signature signature′ : List ℕ) (fault : ℕ) → lineFault N true full sofar l ≡ fault
-    → Fine (nextAnswered d size (unlessFault fault (goodLine (chunkSize l) signature) .answer) signature′)
+    → Fine (nextAnswered d size (unlessFault fault l (goodLine (chunkSize l) signature) .answer) signature′)
 unfolding nextAnswered Line.asked
 fine-next d size N full sofar l signature signature′ zero e = refl
-fine-next d size N full sofar l signature signature′ (suc n) e = fine-refuse (suc n) size d (line-number N true full sofar l n e)
+fine-next d size N full sofar l signature signature′ (suc n) e = fine-refuse _ size d (line-number N true full sofar l n e)
 
 fine-next-line : (d : Configuration) (have size x : ℕ) → Fine (pushNextLine d have size x)
 unfolding pushNextLine nextGathered nextJudged lineJudged
 fine-next-line d have size x =
-    fine-pick (leb lineLimit have) _ _ (fine-refuse 6 size d (omega arith))
+    fine-pick (leb lineLimit have) _ _ (fine-refuse _ size d (omega arith))
     (fine-pick (isWholeLine (take (have + 1) (set (d .reader .line) have x))) _ _
     (fine-next _ size (d .reader .fixed .«block_size») (eqb size (d .reader .fixed .«block_size»)) _ _ _ _ _ refl) refl)
 
@@ -92,31 +93,31 @@ fine-trailer : (d : Configuration) (have total x : ℕ) → Fine (pushTrailer d 
 unfolding pushTrailer trailerGathered
 fine-trailer d have total x =
     let text = take (have + 1) (set (d .block) have x) in
-    fine-pick (leb (length (d .block)) have) _ _ (fine-refuse 6 have d (omega arith))
-    (fine-pick (isWholeTrailer text) _ _ (fine-pick (isTrailer text) _ _ refl (fine-refuse 6 (have + 1) _ (omega arith))) refl)
+    fine-pick (leb (length (d .block)) have) _ _ (fine-refuse _ have d (omega arith))
+    (fine-pick (isWholeTrailer text) _ _ (fine-pick (isTrailer text) _ _ refl (fine-refuse _ (have + 1) _ (omega arith))) refl)
 
 -- a head's refusal too
 fine-judged : (d : Configuration) (n : ℕ) (ring : Ring) (l q : List ℕ) → Fine (judgedAt d n (headJudged ring l q))
 unfolding headJudged headAnswered J.asked
 fine-judged d n ring l q = by (headFault ring l) refl
   where
-    room : (t : Bool) → Fine (judgedAt d n (pick t (J.asked (numberOf (trustedBy ring (headOf l))) (headOf l) q) (judged (noneAsked 3) q)))
+    room : (t : Bool) → Fine (judgedAt d n (pick t (J.asked (numberOf (trustedBy ring (headOf l))) (headOf l) q) (judged (noneAsked 3 l) q)))
     room true = refl
-    room false = fine-refuse 3 0 _ (omega arith)
+    room false = fine-refuse _ 0 _ (omega arith)
 
     by : (fault : ℕ) → headFault ring l ≡ fault
         → Fine
         (judgedAt d n
         (pick (eqb fault 0)
-        (pick (leb (length l) (length q)) (J.asked (numberOf (trustedBy ring (headOf l))) (headOf l) q) (judged (noneAsked 3) q))
-        (judged (noneAsked fault) q)))
+        (pick (leb (length l) (length q)) (J.asked (numberOf (trustedBy ring (headOf l))) (headOf l) q) (judged (noneAsked 3 l) q))
+        (judged (noneAsked fault l) q)))
     by zero e = room (leb (length l) (length q))
-    by (suc k) e = rw (ne-eqb (suc k) 0 (λ x. omega arith)) (fine-refuse (suc k) 0 _ (head-number ring l k e))
+    by (suc k) e = rw (ne-eqb (suc k) 0 (λ x. omega arith)) (fine-refuse _ 0 _ (head-number ring l k e))
 
 fine-head : (ring : Ring) (d : Configuration) (have x : ℕ) → Fine (pushHead ring d have x)
 unfolding pushHead headGathered
 fine-head ring d have x =
-    fine-pick (leb (length (d .head)) have) _ _ (fine-refuse 3 0 d (omega arith))
+    fine-pick (leb (length (d .head)) have) _ _ (fine-refuse _ 0 d (omega arith))
     (fine-pick (isWholeHead (take (have + 1) (set (d .head) have x))) _ _ (fine-judged (configuration (inPhase (d .reader) (P.Head (have + 1))) (set (d .head) have x) (d .block) (d .question)) (have + 1) ring _ (d .question)) refl)
 
 fine-push : (ring : Ring) (d : Configuration) (p : Phase) (x : ℕ) → isReading p ≡ true → Fine (pushAt ring p d x)

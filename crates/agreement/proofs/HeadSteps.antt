@@ -17,6 +17,7 @@ use Rattle.stream.specs.Head.{headOf, statusDigits, injectionId, blockSize, hea
 use Rattle.stream.specs.Limits.{headLimit, idLimit}
 use Rattle.stream.specs.Lines.{Field}
 use Rattle.stream.specs.Numbers.{decimalValue}
+use Rattle.stream.specs.Places.{headPlace}
 use Rattle.stream.specs.Ring.{Ring, numberOf}
 use Rattle.stream.specs.Stream.{isWhole, unlessBroken, showOf, headQuestion, acceptHead, judge, judgeHead, rules}
 use Rattle.stream.specs.Stream as C
@@ -97,17 +98,17 @@ module _ (ring : Ring) (fields : List Field) (d : Configuration) (x : ℕ) (lent
         taken = none;
       })
 
-  answered : (fault : ℕ) → headFault ring l ≡ fault → SoundSays (unlessBroken fault (acceptHead ring (headOf l))) → length l ≤ length (d .question)
+  answered : (fault : ℕ) → headFault ring l ≡ fault → SoundSays (unlessBroken fault (headPlace l) (acceptHead ring (headOf l))) → length l ≤ length (d .question)
       → Gathered (set (d .head) have x) (have + 1) l
       → Follows ring fields
       (judgedAt d′ (have + 1)
       (pick (eqb fault 0)
-      (pick (leb (length l) (length (d .question))) (J.asked (numberOf (trustedBy ring (headOf l))) (headOf l) (d .question)) (judged (noneAsked 3) (d .question)))
-      (judged (noneAsked fault) (d .question))))
-      (ruling (unlessBroken fault (acceptHead ring (headOf l))))
+      (pick (leb (length l) (length (d .question))) (J.asked (numberOf (trustedBy ring (headOf l))) (headOf l) (d .question)) (judged (noneAsked 3 l) (d .question)))
+      (judged (noneAsked fault l) (d .question))))
+      (ruling (unlessBroken fault (headPlace l) (acceptHead ring (headOf l))))
   unfolding headAnswered
   answered zero e h m a = rw (le-leb (length l) (length (d .question)) m) (question-follows e m h a)
-  answered (suc n) e h m a = rw (ne-eqb (suc n) 0 (λ e. omega arith)) (refuses (suc n) 0 d′ (head-number ring l n e) lent′ none)
+  answered (suc n) e h m a = rw (ne-eqb (suc n) 0 (λ e. omega arith)) (refuses _ 0 d′ (head-number ring l n e) lent′ none)
 
   by : (t : Bool) → isWhole C.head l ≡ t → length l ≤ headLimit → Gathered (set (d .head) have x) (have + 1) l
       → Follows ring fields (pick t (judgedAt d′ (have + 1) (headJudged ring l (d .question))) (on d′)) (gathered (rules ring) t C.head l)

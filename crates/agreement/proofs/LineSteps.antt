@@ -10,10 +10,12 @@ use Rattle.octets.specs.Choice.{pick}
 use Rattle.sections.specs.Reading.{go, stop}
 use Rattle.sections.specs.Machine.{running, ruling, gathered, step}
 use Rattle.chunk.specs.Judging.{lineJudged, unlessFault, goodLine, signatureOf}
+use Rattle.refusals.specs.Refusals.{placed}
 use Rattle.stream.specs.Blocks.{isWholeLine, chunkSize, lineFault}
 use Rattle.stream.specs.Events.{closed, refused}
 use Rattle.stream.specs.Limits.{headLimit, bodyLimit, lineLimit}
 use Rattle.stream.specs.Lines.{Field}
+use Rattle.stream.specs.Places.{linePlace, trailerPlace}
 use Rattle.stream.specs.Ring.{Ring}
 use Rattle.stream.specs.Stream.{Show, Past, nothing, isWhole, announced, unlessBroken, judge, judgeFirstLine, judgeTrailer, rules}
 use Rattle.stream.specs.Stream as C
@@ -61,9 +63,9 @@ module _ (ring : Ring) (fields : List Field) (d : Configuration) (x : ℕ) (lent
     lent′ : (q : Phase) → Lent (moved d′ q) fields
     lent′ q = still lent _ refl refl refl refl (length-set (d .reader .line) have x)
 
-    answered : (fault : ℕ) → lineFault (s .size) false true 0 l ≡ fault → SoundSays (unlessBroken fault (go (announced s nothing 0 (chunkSize l))))
-        → Follows ring fields (firstAnswered d′ (unlessFault fault (goodLine (chunkSize l) (signatureOf l)) .answer))
-        (ruling (unlessBroken fault (go (announced s nothing 0 (chunkSize l)))))
+    answered : (fault : ℕ) → lineFault (s .size) false true 0 l ≡ fault → SoundSays (unlessBroken fault (linePlace l) (go (announced s nothing 0 (chunkSize l))))
+        → Follows ring fields (firstAnswered d′ (unlessFault fault l (goodLine (chunkSize l) (signatureOf l)) .answer))
+        (ruling (unlessBroken fault (linePlace l) (go (announced s nothing 0 (chunkSize l)))))
     unfolding firstAnswered
     answered zero e h =
         F.on
@@ -72,7 +74,7 @@ module _ (ring : Ring) (fields : List Field) (d : Configuration) (x : ℕ) (lent
           lent = lent′ _;
           taken = none;
         })
-    answered (suc n) e h = refuses (suc n) 0 d′ (line-number (s .size) false true 0 l n e) (lent′ (P.FirstLine (have + 1))) none
+    answered (suc n) e h = refuses _ 0 d′ (line-number (s .size) false true 0 l n e) (lent′ (P.FirstLine (have + 1))) none
 
     by : (N : ℕ) → N ≡ s .size → (t : Bool) → isWhole (C.firstLine s) l ≡ t → length l ≤ lineLimit
         → Gathered (set (d .reader .line) have x) (have + 1) l
@@ -103,16 +105,16 @@ module _ (ring : Ring) (fields : List Field) (d : Configuration) (x : ℕ) (lent
     lent-after q = still lent _ refl refl (length-set (d .block) have x) refl refl
 
     closed-by : (t : Bool)
-        → Follows ring fields (pick t (D.stop (W.Closed total) noSignature (moved after (P.Closed total))) (refuse 6 (have + 1) after))
-        (ruling (elim t [ true ↦ stop (closed total) | false ↦ stop (refused 6) ]))
+        → Follows ring fields (pick t (D.stop (W.Closed total) noSignature (moved after (P.Closed total))) (refuse (placed 6 (trailerPlace text)) (have + 1) after))
+        (ruling (elim t [ true ↦ stop (closed total) | false ↦ stop (refused 6 (trailerPlace text)) ]))
     unfolding wordSeen
     closed-by true = F.says refl refl (record { stands = F.closed; lent = lent-after _; taken = none })
-    closed-by false = refuses 6 (have + 1) after (omega arith) (lent-after (P.Trailer (have + 1) total)) none
+    closed-by false = refuses _ (have + 1) after (omega arith) (lent-after (P.Trailer (have + 1) total)) none
 
     trailer-by : (t : Bool) → isWhole (C.trailer total) text ≡ t → Gathered (set (d .block) have x) (have + 1) text
         → Follows ring fields
         (pick t
-        (pick (isTrailer text) (D.stop (W.Closed total) noSignature (moved after (P.Closed total))) (refuse 6 (have + 1) after))
+        (pick (isTrailer text) (D.stop (W.Closed total) noSignature (moved after (P.Closed total))) (refuse (placed 6 (trailerPlace text)) (have + 1) after))
         (on after))
         (gathered (rules ring) t (C.trailer total) text)
     unfolding rules judge judgeTrailer

@@ -4,6 +4,7 @@ use mathlib.Core.Path.{_≡_, refl, sym, _∙_}
 use mathlib.Core.Bool.{Bool, true, false, true≢false}
 use native.Mathlib.Omega.{arith}
 use Rattle.octets.specs.Choice.{pick}
+use Rattle.refusals.specs.Refusals.{plain}
 use Rattle.ring.specs.Keys.{ringOf}
 use Rattle.ring.specs.declared.KeyRing.{KeyRing}
 use Rattle.sections.specs.Calls.{Request, feed, answer, end}
@@ -34,12 +35,12 @@ call-pick false c e a b = b
 fine-answer : (d : Configuration) (p : Phase) (good : Bool) → isAsking p ≡ true → isMisuse (answerAt p d good .word) ≡ false
 unfolding answerAt headAnswer blockAnswer
 fine-answer d (P.Head n) good e = absurd (true≢false (sym e))
-fine-answer d (P.HeadAsked n) good e = call-pick good _ _ refl (given-fine (refuse 10 0 d) (fine-refuse 10 0 d (omega arith)))
+fine-answer d (P.HeadAsked n) good e = call-pick good _ _ refl (given-fine (refuse (plain 10) 0 d) (fine-refuse _ 0 d (omega arith)))
 fine-answer d (P.FirstLine n) good e = absurd (true≢false (sym e))
 fine-answer d (P.Data have size) good e = absurd (true≢false (sym e))
 fine-answer d (P.DataEnd have size) good e = absurd (true≢false (sym e))
 fine-answer d (P.NextLine have size) good e = absurd (true≢false (sym e))
-fine-answer d (P.BlockAsked size next) good e = call-pick good _ _ refl (given-fine (refuse 10 size d) (fine-refuse 10 size d (omega arith)))
+fine-answer d (P.BlockAsked size next) good e = call-pick good _ _ refl (given-fine (refuse (plain 10) size d) (fine-refuse _ size d (omega arith)))
 fine-answer d (P.Trailer have total) good e = absurd (true≢false (sym e))
 fine-answer d (P.Closed total) good e = absurd (true≢false (sym e))
 fine-answer d (P.Refused n) good e = absurd (true≢false (sym e))
@@ -75,4 +76,4 @@ module _ (keys : KeyRing) (d : Configuration) where
   unfolding feedOf answerOf endOf takenFrom
   due-fine (feed piece) f e = rw (loan-same (d .head) (d .block) (d .question) keys (feed piece) ∙ f, e) (fine-run (ringOf keys) (recalled d) 0 piece e)
   due-fine (answer good) f e = rw (roomy-of (answer good) f) (fine-answer d (d .reader .phase) good e)
-  due-fine end f e = rw (roomy-of end f, e) (given-fine (refuse 11 (pending (d .reader .phase)) (recalled d)) (fine-refuse 11 (pending (d .reader .phase)) (recalled d) (omega arith)))
+  due-fine end f e = rw (roomy-of end f, e) (given-fine (refuse (plain 11) (pending (d .reader .phase)) (recalled d)) (fine-refuse _ (pending (d .reader .phase)) (recalled d) (omega arith)))

@@ -19,6 +19,7 @@ use Rattle.number.specs.Writing.{written}
 use Rattle.stream.specs.Blocks.{isWholeLine, carriesSignature, chunkSize, lineSignature, lineRules, lineFault, chained, blockMessage}
 use Rattle.stream.specs.Limits.{lineLimit, bodyLimit}
 use Rattle.stream.specs.Lines.{Field}
+use Rattle.stream.specs.Places.{linePlace}
 use Rattle.stream.specs.Ring.{Ring}
 use Rattle.stream.specs.Stream.{Show, Past, isWhole, unlessBroken, judge, blockOffset, bodyWith, blockQuestion, acceptBlock, judgeNextLine, rules}
 use Rattle.stream.specs.Stream as C
@@ -128,13 +129,13 @@ module _ (ring : Ring) (fields : List Field) (d : Configuration) (x : ℕ) (lent
       })
 
   answered : (fault : ℕ) → lineFault (s .size) true (eqb (length b) (s .size)) (bodyWith s p b) l ≡ fault
-      → SoundSays (unlessBroken fault (acceptBlock s p b l))
+      → SoundSays (unlessBroken fault (linePlace l) (acceptBlock s p b l))
       → Follows ring fields
-      (nextAnswered d′ size (unlessFault fault (goodLine (chunkSize l) (signatureOf l)) .answer) (unlessFault fault (goodLine (chunkSize l) (signatureOf l)) .signature))
-      (ruling (unlessBroken fault (acceptBlock s p b l)))
+      (nextAnswered d′ size (unlessFault fault l (goodLine (chunkSize l) (signatureOf l)) .answer) (unlessFault fault l (goodLine (chunkSize l) (signatureOf l)) .signature))
+      (ruling (unlessBroken fault (linePlace l) (acceptBlock s p b l)))
   unfolding nextAnswered
   answered zero e h = question-follows e h
-  answered (suc n) e h = refuses (suc n) size d′ (line-number (s .size) true (eqb (length b) (s .size)) (bodyWith s p b) l n e) lent′ none
+  answered (suc n) e h = refuses _ size d′ (line-number (s .size) true (eqb (length b) (s .size)) (bodyWith s p b) l n e) lent′ none
 
   pub judged-is : nextJudged (d′ .reader) size l ≡ lineJudged (s .size) true (eqb (length b) (s .size)) (bodyWith s p b) l
   unfolding nextJudged

@@ -10,6 +10,7 @@ use Rattle.octets.specs.Choice.{pick}
 use Rattle.sections.specs.Reading.{last}
 use Rattle.sections.specs.Calls.{isOfCall, event}
 use Rattle.sections.specs.Machine.{finished, decides}
+use Rattle.refusals.specs.declared.Refusal.{Refusal}
 use Rattle.stream.specs.Blocks.{lineRules, lineFault}
 use Rattle.stream.specs.Events.{refused}
 use Rattle.stream.specs.Head.{headOf, textRules, trustRules, headFault}
@@ -54,13 +55,14 @@ head-number ring l k e = rw e at (broken-from 3 (textRules l (headOf l) ++ trust
 pub of-stream : (n : ℕ) → 3 ≤ n → isOfCall n ≡ false
 of-stream n h = rw (ne-eqb n 1 (λ e. omega arith), ne-eqb n 2 (λ e. omega arith))
 
-pub seen-final : (n : ℕ) (signature : List ℕ) (d : Configuration) → 3 ≤ n → wordSeen (W.Refused n) signature d ≡ event (last (refused n))
+pub seen-final : (why : Refusal) (signature : List ℕ) (d : Configuration) → 3 ≤ why .number
+    → wordSeen (W.Refused why) signature d ≡ event (last (refused (why .number) (why .at)))
 unfolding wordSeen
-seen-final n signature d h = rw (of-stream n h)
+seen-final why signature d h = rw (of-stream (why .number) h)
 
-pub refuses : {ring : Ring} {fields : List Field} (n count : ℕ) (d : Configuration) → 3 ≤ n → Lent d fields → d .reader .released ≡ 0
-    → Follows ring fields (refuse n count d) (decides (last (refused n)) finished)
+pub refuses : {ring : Ring} {fields : List Field} (why : Refusal) (count : ℕ) (d : Configuration) → 3 ≤ why .number → Lent d fields → d .reader .released ≡ 0
+    → Follows ring fields (refuse why count d) (decides (last (refused (why .number) (why .at))) finished)
 unfolding refuse
-refuses n count d h l z =
-    F.says (seen-final n _ _ h) refl
+refuses why count d h l z =
+    F.says (seen-final why _ _ h) refl
     (record { stands = F.refused; lent = still l _ refl refl (length-cleared count (d .block)) refl refl; taken = z })

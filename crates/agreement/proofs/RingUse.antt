@@ -9,6 +9,7 @@ use lib.ListN.{length, take, set, getD}
 use Rattle.octets.specs.Choice.{pick}
 use Rattle.chunk.specs.declared.judging.LineAnswer.{LineAnswer}
 use Rattle.chunk.specs.declared.judging.LineAnswer.the-variants as A
+use Rattle.refusals.specs.declared.Refusal.{Refusal}
 use Rattle.ring.specs.Keys.{ringOf}
 use Rattle.ring.specs.declared.KeyRing.{KeyRing}
 use Rattle.stream.specs.Blocks.{isWholeLine}
@@ -43,9 +44,9 @@ past-phase : (t : Bool) (p q : Phase) → isInHead p ≡ false → isInHead q �
 past-phase true p q a b = a
 past-phase false p q a b = b
 
-past-refuse : (n count : ℕ) (d : Configuration) → Past (refuse n count d)
+past-refuse : (why : Refusal) (count : ℕ) (d : Configuration) → Past (refuse why count d)
 unfolding refuse
-past-refuse n count d = tt
+past-refuse why count d = tt
 
 past-first : (d : Configuration) (a : LineAnswer) → Past (firstAnswered d a)
 unfolding firstAnswered
@@ -62,21 +63,21 @@ unfolding pushAt pushData pushDataEnd pushFirstLine firstGathered pushNextLine n
 past-push ring d (P.Head have) x e = absurd (true≢false e)
 past-push ring d (P.HeadAsked n) x e = tt
 past-push ring d (P.FirstLine have) x e =
-    past-pick (leb lineLimit have) _ _ (past-refuse 6 0 d)
+    past-pick (leb lineLimit have) _ _ (past-refuse _ 0 d)
     (past-pick (isWholeLine (take (have + 1) (set (d .reader .line) have x))) _ _ (past-first _ _) refl)
 past-push ring d (P.Data have size) x e =
-    past-pick (leb (length (d .block)) have) _ _ (past-refuse 6 have d)
+    past-pick (leb (length (d .block)) have) _ _ (past-refuse _ have d)
     (past-phase (leb size (have + 1)) (P.DataEnd 0 size) (P.Data (have + 1) size) refl refl)
 past-push ring d (P.DataEnd have size) x e =
-    past-pick (eqb have 0) _ _ refl (past-pick (same (getD (d .reader .line) 0 0 ∷ x ∷ []) crlf) _ _ refl (past-refuse 6 size d))
+    past-pick (eqb have 0) _ _ refl (past-pick (same (getD (d .reader .line) 0 0 ∷ x ∷ []) crlf) _ _ refl (past-refuse _ size d))
 past-push ring d (P.NextLine have size) x e =
-    past-pick (leb lineLimit have) _ _ (past-refuse 6 size d)
+    past-pick (leb lineLimit have) _ _ (past-refuse _ size d)
     (past-pick (isWholeLine (take (have + 1) (set (d .reader .line) have x))) _ _ (past-next _ size _ _) refl)
 past-push ring d (P.BlockAsked size next) x e = tt
 past-push ring d (P.Trailer have total) x e =
     let text = take (have + 1) (set (d .block) have x) in
-    past-pick (leb (length (d .block)) have) _ _ (past-refuse 6 have d)
-    (past-pick (isWholeTrailer text) _ _ (past-pick (isTrailer text) _ _ tt (past-refuse 6 (have + 1) _)) refl)
+    past-pick (leb (length (d .block)) have) _ _ (past-refuse _ have d)
+    (past-pick (isWholeTrailer text) _ _ (past-pick (isTrailer text) _ _ tt (past-refuse _ (have + 1) _)) refl)
 past-push ring d (P.Closed total) x e = tt
 past-push ring d (P.Refused n) x e = tt
 

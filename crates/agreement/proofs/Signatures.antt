@@ -8,6 +8,7 @@ use lib.ListN.{length, take, set, getD}
 use Rattle.octets.specs.Choice.{pick}
 use Rattle.chunk.specs.declared.judging.LineAnswer.{LineAnswer}
 use Rattle.chunk.specs.declared.judging.LineAnswer.the-variants as A
+use Rattle.refusals.specs.declared.Refusal.{Refusal}
 use Rattle.ring.specs.Keys.{ringOf}
 use Rattle.ring.specs.declared.KeyRing.{KeyRing}
 use Rattle.sections.specs.Calls.{Request, feed, answer, end}
@@ -47,9 +48,9 @@ unsigned-pick : (t : Bool) (m n : Next) → Unsigned m → Unsigned n → Unsign
 unsigned-pick true m n a b = a
 unsigned-pick false m n a b = b
 
-unsigned-refuse : (n count : ℕ) (d : Configuration) → Unsigned (refuse n count d)
+unsigned-refuse : (why : Refusal) (count : ℕ) (d : Configuration) → Unsigned (refuse why count d)
 unfolding refuse
-unsigned-refuse n count d = λ e. refl
+unsigned-refuse why count d = λ e. refl
 
 unsigned-first : (d : Configuration) (a : LineAnswer) → Unsigned (firstAnswered d a)
 unfolding firstAnswered
@@ -69,23 +70,23 @@ unsigned-head d n (H.Asks status size key idLength length) signature id = λ e. 
 unsigned-push : (ring : Ring) (d : Configuration) (p : Phase) (x : ℕ) → Unsigned (pushAt ring p d x)
 unfolding pushAt pushHead headGathered pushData pushDataEnd pushFirstLine firstGathered pushNextLine nextGathered pushTrailer trailerGathered
 unsigned-push ring d (P.Head have) x =
-    unsigned-pick (leb (length (d .head)) have) _ _ (unsigned-refuse 3 0 d)
+    unsigned-pick (leb (length (d .head)) have) _ _ (unsigned-refuse _ 0 d)
     (unsigned-pick (isWholeHead (take (have + 1) (set (d .head) have x))) _ _ (unsigned-head _ (have + 1) _ _ _) tt)
 unsigned-push ring d (P.HeadAsked n) x = λ e. refl
 unsigned-push ring d (P.FirstLine have) x =
-    unsigned-pick (leb lineLimit have) _ _ (unsigned-refuse 6 0 d)
+    unsigned-pick (leb lineLimit have) _ _ (unsigned-refuse _ 0 d)
     (unsigned-pick (isWholeLine (take (have + 1) (set (d .reader .line) have x))) _ _ (unsigned-first _ _) tt)
-unsigned-push ring d (P.Data have size) x = unsigned-pick (leb (length (d .block)) have) _ _ (unsigned-refuse 6 have d) tt
+unsigned-push ring d (P.Data have size) x = unsigned-pick (leb (length (d .block)) have) _ _ (unsigned-refuse _ have d) tt
 unsigned-push ring d (P.DataEnd have size) x =
-    unsigned-pick (eqb have 0) _ _ tt (unsigned-pick (same (getD (d .reader .line) 0 0 ∷ x ∷ []) crlf) _ _ tt (unsigned-refuse 6 size d))
+    unsigned-pick (eqb have 0) _ _ tt (unsigned-pick (same (getD (d .reader .line) 0 0 ∷ x ∷ []) crlf) _ _ tt (unsigned-refuse _ size d))
 unsigned-push ring d (P.NextLine have size) x =
-    unsigned-pick (leb lineLimit have) _ _ (unsigned-refuse 6 size d)
+    unsigned-pick (leb lineLimit have) _ _ (unsigned-refuse _ size d)
     (unsigned-pick (isWholeLine (take (have + 1) (set (d .reader .line) have x))) _ _ (unsigned-next _ size _ _) tt)
 unsigned-push ring d (P.BlockAsked size next) x = λ e. refl
 unsigned-push ring d (P.Trailer have total) x =
     let text = take (have + 1) (set (d .block) have x) in
-    unsigned-pick (leb (length (d .block)) have) _ _ (unsigned-refuse 6 have d)
-    (unsigned-pick (isWholeTrailer text) _ _ (unsigned-pick (isTrailer text) _ _ (λ e. refl) (unsigned-refuse 6 (have + 1) _)) tt)
+    unsigned-pick (leb (length (d .block)) have) _ _ (unsigned-refuse _ have d)
+    (unsigned-pick (isWholeTrailer text) _ _ (unsigned-pick (isTrailer text) _ _ (λ e. refl) (unsigned-refuse _ (have + 1) _)) tt)
 unsigned-push ring d (P.Closed total) x = λ e. refl
 unsigned-push ring d (P.Refused n) x = λ e. refl
 
@@ -108,19 +109,19 @@ unsigned-run ring d t (x ∷ xs) = by (pushByte ring d x) (unsigned-push ring d 
     by (on d′) u ih = ih d′
     by (stop w signature d′) u ih = u
 
-given-unsigned : (n count : ℕ) (d : Configuration) → UnsignedCall (given 0 (refuse n count d))
+given-unsigned : (why : Refusal) (count : ℕ) (d : Configuration) → UnsignedCall (given 0 (refuse why count d))
 unfolding refuse
-given-unsigned n count d = λ e. refl
+given-unsigned why count d = λ e. refl
 
 unsigned-answer : (d : Configuration) (p : Phase) (good : Bool) → UnsignedCall (answerAt p d good)
 unfolding answerAt headAnswer blockAnswer
 unsigned-answer d (P.Head n) good = λ e. refl
-unsigned-answer d (P.HeadAsked n) good = call-pick good _ _ (λ e. refl) (given-unsigned 10 0 d)
+unsigned-answer d (P.HeadAsked n) good = call-pick good _ _ (λ e. refl) (given-unsigned _ 0 d)
 unsigned-answer d (P.FirstLine n) good = λ e. refl
 unsigned-answer d (P.Data have size) good = λ e. refl
 unsigned-answer d (P.DataEnd have size) good = λ e. refl
 unsigned-answer d (P.NextLine have size) good = λ e. refl
-unsigned-answer d (P.BlockAsked size next) good = call-pick good _ _ (λ e. refl) (given-unsigned 10 size d)
+unsigned-answer d (P.BlockAsked size next) good = call-pick good _ _ (λ e. refl) (given-unsigned _ size d)
 unsigned-answer d (P.Trailer have total) good = λ e. refl
 unsigned-answer d (P.Closed total) good = λ e. refl
 unsigned-answer d (P.Refused n) good = λ e. refl
@@ -137,4 +138,4 @@ unsigned-call keys d (feed piece) = by (fits d) refl (leb (keys .count) ringLimi
     by false e u f = rw e (λ x. refl)
 unsigned-call keys d (answer good) = call-pick (fits d) _ _ (unsigned-answer d (d .reader .phase) good) (λ e. refl)
 unsigned-call keys d end =
-    call-pick (fits d) _ _ (call-pick (isReading (d .reader .phase)) _ _ (given-unsigned 11 (pending (d .reader .phase)) (recalled d)) (λ e. refl)) (λ e. refl)
+    call-pick (fits d) _ _ (call-pick (isReading (d .reader .phase)) _ _ (given-unsigned _ (pending (d .reader .phase)) (recalled d)) (λ e. refl)) (λ e. refl)

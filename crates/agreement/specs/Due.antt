@@ -48,7 +48,7 @@ isMisuse (W.Question n key) = false
 isMisuse (W.Head status) = false
 isMisuse (W.Block offset n) = false
 isMisuse (W.Closed total) = false
-isMisuse (W.Refused n) = isOfCall n
+isMisuse (W.Refused why) = isOfCall (why .number)
 
 -- the word asks a question: with it goes a signature
 abbrev pub isQuestion : Code.Word → Bool

@@ -7,6 +7,7 @@ use Prim.Native.Nat.{ℕ}
 use lib.Dec.{leb}
 use lib.ListN.{length, take}
 use Rattle.octets.specs.Choice.{pick}
+use Rattle.refusals.specs.declared.Refusal.{Refusal}
 use Rattle.ring.specs.declared.KeyRing.{KeyRing}
 use Rattle.sections.specs.Reading.{question, message, last}
 use Rattle.sections.specs.Calls.{isOfCall, Request, feed, answer, end, Reply, more, event, misused}
@@ -51,8 +52,8 @@ runCall ring d (other h b q ring′ r misfit) = aside ring′ d (configuration (
 -- ---- what a caller sees
 
 -- a refusal that does not answer a call is final
-abbrev pub refusal : ℕ → Reply Question Told LastWord
-refusal n = pick (isOfCall n) (misused n) (event (last (refused n)))
+abbrev pub refusal : Refusal → Reply Question Told LastWord
+refusal why = pick (isOfCall (why .number)) (misused (why .number)) (event (last (refused (why .number) (why .at))))
 
 -- what `block_part` and `field_part` hand out
 abbrev pub blockSeen : Configuration → List ℕ
@@ -74,7 +75,7 @@ wordSeen (W.Question n key) signature d = questionSeen n key signature (d .quest
 wordSeen (W.Head status) signature d = event (message (headAccepted status (valueSeen d)))
 wordSeen (W.Block offset n) signature d = event (message (block (offset .0) n (blockSeen d)))
 wordSeen (W.Closed total) signature d = event (last (closed total))
-wordSeen (W.Refused n) signature d = refusal n
+wordSeen (W.Refused why) signature d = refusal why
 
 unfoldable pub observed : R.Response → Observation
 observed c =

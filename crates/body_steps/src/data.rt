@@ -1,4 +1,5 @@
 // A block's data, and the CR LF after it.
+use refusals::Refusal;
 use state::Phase;
 use state::Reader;
 use state::Stepped;
@@ -18,7 +19,7 @@ pub fn push_data(r: Reader, block: &mut [u8], have: usize, size: usize, x: u8) -
     ensures { λ s. ⌜ ((h q : List ℕ) → nextOf s h (now (block .exit)) q ≡ pushData (configuration r h (now (block .entry)) q) have size x) ⌝ }
 {
     if block.len() <= have {
-        return refused(r, block, have, 6);
+        return refused(r, block, have, Refusal { number: 6, at: 0 });
     }
     block[have] = x;
     let next = have + 1;
@@ -40,11 +41,11 @@ pub fn push_data_end(r: Reader, block: &mut [u8], have: usize, size: usize, x: u
             with_line(r, Phase::DataEnd { have: 1, size }, line),
         );
     }
-    if line[0] != b'\r' {
-        return refused(r, block, size, 6);
-    }
-    if x != b'\n' {
-        return refused(r, block, size, 6);
+    let end = [line[0], x];
+    let checked = scanning::data_end(&end);
+    if !checked.good {
+        let at = checked.at;
+        return refused(r, block, size, Refusal { number: 6, at });
     }
     said(Word::More, in_phase(r, Phase::NextLine { have: 0, size }))
 }

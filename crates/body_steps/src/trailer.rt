@@ -1,4 +1,5 @@
 // The trailer, gathered from the front of the block buffer and judged once, at its end.
+use refusals::Refusal;
 use state::Phase;
 use state::Reader;
 use state::Stepped;
@@ -34,7 +35,8 @@ fn judge_trailer(r: Reader, block: &mut [u8], have: usize, total: u64) -> Steppe
     if field_lines::is_trailer(&block[0..have]) {
         return said(Word::Closed(total), in_phase(r, Phase::Closed(total)));
     }
-    refused(r, block, have, 6)
+    let at = scanning::trailer_place(&block[0..have]);
+    refused(r, block, have, Refusal { number: 6, at })
 }
 
 // A byte of the trailer, of which `have` bytes have come, after a body of `total` bytes.
@@ -42,7 +44,15 @@ pub fn push_trailer(r: Reader, block: &mut [u8], have: usize, total: u64, x: u8)
     ensures { λ s. ⌜ ((h q : List ℕ) → nextOf s h (now (block .exit)) q ≡ pushTrailer (configuration r h (now (block .entry)) q) have total x) ⌝ }
 {
     if block.len() <= have {
-        return refused(r, block, have, 6);
+        return refused(
+            r,
+            block,
+            have,
+            Refusal {
+                number: 6,
+                at: TRAILER_LIMIT,
+            },
+        );
     }
     block[have] = x;
     let next = have + 1;

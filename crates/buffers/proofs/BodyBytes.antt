@@ -10,11 +10,13 @@ use lib.Seq.{take-suc}
 use Rattle.octets.specs.Choice.{pick}
 use Rattle.sections.specs.Reading.{go, stop}
 use Rattle.sections.proofs.Marks.{markOf, rulingOn, gatheredOn, move}
+use Rattle.refusals.specs.Refusals.{placed}
 use Rattle.stream.specs.Buffers.{Buffers, intoBlock, withSection, pending, withLastWord, effects}
 use Rattle.stream.specs.Bytes.{same}
 use Rattle.stream.specs.Events.{closed, refused}
 use Rattle.stream.specs.Limits.{headLimit}
 use Rattle.stream.specs.Lines.{Field, crlf}
+use Rattle.stream.specs.Places.{dataEndPlace, trailerPlace}
 use Rattle.stream.specs.Ring.{Ring}
 use Rattle.stream.specs.Stream.{Show, Past, isWhole, judge, judgeDataEnd, judgeTrailer, rules}
 use Rattle.stream.specs.Stream as C
@@ -56,11 +58,11 @@ module _ (ring : Ring) (fields : List Field) (d : Configuration) (x : ℕ) (lent
 
   module _ (s : Show) (p : Past) (size : ℕ) (block : List ℕ) (u : Under d s p size block) where
     end-by : (t : Bool) (l : List ℕ) → buffersIn d ≡ b
-        → Left ring (afterNext (pick t (on (moved d (P.NextLine 0 size))) (refuse 6 size d)))
-        (markOf (rulingOn (rules ring) effects (C.dataEnd s p block) l (elim t [ true ↦ go (C.nextLine s p block) | false ↦ stop (refused 6) ]) b))
+        → Left ring (afterNext (pick t (on (moved d (P.NextLine 0 size))) (refuse (placed 6 (dataEndPlace l)) size d)))
+        (markOf (rulingOn (rules ring) effects (C.dataEnd s p block) l (elim t [ true ↦ go (C.nextLine s p block) | false ↦ stop (refused 6 (dataEndPlace l)) ]) b))
     unfolding pending
     end-by true l f = begins _ b f _
-    end-by false l f = refuses d b f 6 size (C.dataEnd s p block) l (sym (u .bytes .count)) (within (u .bytes))
+    end-by false l f = refuses d b f _ size (C.dataEnd s p block) l (sym (u .bytes .count)) (within (u .bytes))
 
     pub end-leaves : (have : ℕ) (g : List ℕ) → Gathered (d .reader .line) have g → isWhole (C.dataEnd s p block) g ≡ false
         → buffersIn d ≡ withSection (C.dataEnd s p block) g b
@@ -85,15 +87,15 @@ module _ (ring : Ring) (fields : List Field) (d : Configuration) (x : ℕ) (lent
     after = configuration (inPhase (d .reader) (P.Trailer (have + 1) total)) (d .head) (set (d .block) have x) (d .question)
 
     closed-by : (t : Bool) → Gathered (after .block) (have + 1) text → buffersIn after ≡ intoBlock text b
-        → Left ring (afterNext (pick t (D.stop (W.Closed total) noSignature (moved after (P.Closed total))) (refuse 6 (have + 1) after)))
-        (markOf (rulingOn (rules ring) effects (C.trailer total) text (elim t [ true ↦ stop (closed total) | false ↦ stop (refused 6) ]) (intoBlock text b)))
+        → Left ring (afterNext (pick t (D.stop (W.Closed total) noSignature (moved after (P.Closed total))) (refuse (placed 6 (trailerPlace text)) (have + 1) after)))
+        (markOf (rulingOn (rules ring) effects (C.trailer total) text (elim t [ true ↦ stop (closed total) | false ↦ stop (refused 6 (trailerPlace text)) ]) (intoBlock text b)))
     unfolding pending withLastWord
     closed-by true a f = record { same = f; waits = tt }
-    closed-by false a f = refuses after (intoBlock text b) f 6 (have + 1) (C.trailer total) text (sym (a .count)) (within a)
+    closed-by false a f = refuses after (intoBlock text b) f _ (have + 1) (C.trailer total) text (sym (a .count)) (within a)
 
     trailer-by : (t : Bool) → Gathered (after .block) (have + 1) text → buffersIn after ≡ intoBlock text b
         → Left ring
-        (afterNext (pick t (pick (isTrailer text) (D.stop (W.Closed total) noSignature (moved after (P.Closed total))) (refuse 6 (have + 1) after)) (on after)))
+        (afterNext (pick t (pick (isTrailer text) (D.stop (W.Closed total) noSignature (moved after (P.Closed total))) (refuse (placed 6 (trailerPlace text)) (have + 1) after)) (on after)))
         (markOf (gatheredOn (rules ring) effects t (C.trailer total) text b))
     unfolding rules judge judgeTrailer withSection
     trailer-by true a f = closed-by (isTrailer text) a f

@@ -13,6 +13,7 @@ use Rattle.stream.specs.Buffers.{Buffers, front, intoHead, withSection, withMes
 use Rattle.stream.specs.Head.{headOf, signingString, trustedBy, headFault, isWholeHead}
 use Rattle.stream.specs.Limits.{headLimit}
 use Rattle.stream.specs.Lines.{Field}
+use Rattle.stream.specs.Places.{headPlace}
 use Rattle.stream.specs.Ring.{Ring, numberOf}
 use Rattle.stream.specs.Stream.{isWhole, unlessBroken, headQuestion, acceptHead, judge, judgeHead, rules}
 use Rattle.stream.specs.Stream as C
@@ -50,12 +51,12 @@ module _ (ring : Ring) (fields : List Field) (d : Configuration) (x : ℕ) (lent
       (afterNext
       (judgedAt d′ (have + 1)
       (pick (eqb fault 0)
-      (pick (leb (length l) (length (d .question))) (J.asked (numberOf (trustedBy ring (headOf l))) (headOf l) (d .question)) (judged (noneAsked 3) (d .question)))
-      (judged (noneAsked fault) (d .question)))))
-      (markOf (rulingOn (rules ring) effects C.head l (unlessBroken fault (acceptHead ring (headOf l))) (intoHead l b)))
+      (pick (leb (length l) (length (d .question))) (J.asked (numberOf (trustedBy ring (headOf l))) (headOf l) (d .question)) (judged (noneAsked 3 l) (d .question)))
+      (judged (noneAsked fault l) (d .question)))))
+      (markOf (rulingOn (rules ring) effects C.head l (unlessBroken fault (headPlace l) (acceptHead ring (headOf l))) (intoHead l b)))
   unfolding headAnswered pending
   answered zero m f = rw (le-leb (length l) (length (d .question)) m) (asked-left f)
-  answered (suc n) m f = rw (ne-eqb (suc n) 0 (λ e. omega arith)) (refuses d′ (intoHead l b) f (suc n) 0 C.head l refl (omega arith))
+  answered (suc n) m f = rw (ne-eqb (suc n) 0 (λ e. omega arith)) (refuses d′ (intoHead l b) f _ 0 C.head l refl (omega arith))
 
   by : (t : Bool) → length l ≤ length (d .question) → buffersIn d′ ≡ intoHead l b
       → Left ring (afterNext (pick t (judgedAt d′ (have + 1) (headJudged ring l (d .question))) (on d′)))

@@ -14,6 +14,7 @@ use Rattle.stream.specs.Bytes.{same}
 use Rattle.stream.specs.Events.{LastWord, closed, refused}
 use Rattle.stream.specs.Head.{headOf, headFault, isWholeHead}
 use Rattle.stream.specs.Lines.{crlf}
+use Rattle.stream.specs.Places.{headPlace, linePlace, dataEndPlace, trailerPlace}
 use Rattle.stream.specs.Ring.{Ring}
 use Rattle.stream.specs.Stream.{Show, Past, nothing, after, bodyWith, Context, head, firstLine, blockData, dataEnd, nextLine, trailer, isWhole, Says, announced, unlessBroken, acceptHead, acceptBlock, judgeHead, judgeFirstLine, judgeDataEnd, judgeNextLine, judgeTrailer, judge, rules}
 use Rattle.stream.specs.Trailer.{isTrailer}
@@ -38,27 +39,27 @@ announced-past : (s : Show) (p : Past) (total n : ℕ) → isPast (announced s p
 announced-past s p total zero = refl
 announced-past s p total (suc n) = refl
 
-unless-onward : (fault : ℕ) (v : Says) → Onward v → Onward (unlessBroken fault v)
-unless-onward zero v h = h
-unless-onward (suc n) v h = tt
+unless-onward : (fault place : ℕ) (v : Says) → Onward v → Onward (unlessBroken fault place v)
+unless-onward zero place v h = h
+unless-onward (suc n) place v h = tt
 
 judge-onward : (ring : Ring) (c : Context) (l : List ℕ) → Onward (judge ring c l)
 unfolding judge judgeHead judgeFirstLine judgeDataEnd judgeNextLine judgeTrailer acceptHead acceptBlock
-judge-onward ring head l = unless-onward (headFault ring l) (acceptHead ring (headOf l)) refl
+judge-onward ring head l = unless-onward (headFault ring l) (headPlace l) (acceptHead ring (headOf l)) refl
 judge-onward ring (firstLine s) l =
-    unless-onward (lineFault (s .size) false true 0 l) (go (announced s nothing 0 (chunkSize l))) (announced-past s nothing 0 (chunkSize l))
+    unless-onward (lineFault (s .size) false true 0 l) (linePlace l) (go (announced s nothing 0 (chunkSize l))) (announced-past s nothing 0 (chunkSize l))
 judge-onward ring (blockData s p n) l = refl
 judge-onward ring (dataEnd s p d) l = by (same l crlf)
   where
-    by : (t : Bool) → Onward (elim t [ true ↦ go (nextLine s p d) | false ↦ stop (refused 6) ])
+    by : (t : Bool) → Onward (elim t [ true ↦ go (nextLine s p d) | false ↦ stop (refused 6 (dataEndPlace l)) ])
     by true = refl
     by false = tt
 judge-onward ring (nextLine s p d) l =
-    unless-onward (lineFault (s .size) true (eqb (length d) (s .size)) (bodyWith s p d) l) (acceptBlock s p d l)
+    unless-onward (lineFault (s .size) true (eqb (length d) (s .size)) (bodyWith s p d) l) (linePlace l) (acceptBlock s p d l)
     (announced-past s (after p d) (bodyWith s p d) (chunkSize l))
 judge-onward ring (trailer total) l = by (isTrailer l)
   where
-    by : (t : Bool) → Onward (elim t [ true ↦ stop (closed total) | false ↦ stop (refused 6) ])
+    by : (t : Bool) → Onward (elim t [ true ↦ stop (closed total) | false ↦ stop (refused 6 (trailerPlace l)) ])
     by true = tt
     by false = tt
 
@@ -67,7 +68,7 @@ judge-onward ring (trailer total) l = by (isTrailer l)
 finished-head : (c : Context) (l : List ℕ) (w : LastWord) (b : Buffers) → withLastWord c l w b .head ≡ b .head
 unfolding withLastWord
 finished-head c l (closed total) b = refl
-finished-head c l (refused n) b = refl
+finished-head c l (refused n at) b = refl
 
 gathered-head : (c : Context) (l : List ℕ) (b : Buffers) → isPast c ≡ true → withSection c l b .head ≡ b .head
 unfolding withSection

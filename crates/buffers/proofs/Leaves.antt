@@ -5,6 +5,7 @@ use mathlib.Core.List.{List, []}
 use Prim.Native.Nat.{ℕ, _≤_}
 use lib.ListN.{length, replicate}
 use Rattle.sections.proofs.Marks.{Mark, midway, waiting, done, leftAt}
+use Rattle.refusals.specs.declared.Refusal.{Refusal}
 use Rattle.stream.specs.Buffers.{Buffers, front, pending, withLastWord, effects}
 use Rattle.stream.specs.Events.{Release, LastWord, refused}
 use Rattle.stream.specs.Ring.{Ring}
@@ -38,10 +39,10 @@ module _ {ring : Ring} (d : Configuration) (b : Buffers) (same : buffersIn d ≡
   begins c = record { same = same ∙ sym (none-gathered c b); waits = tt }
 
   -- a final refusal, with as many bytes cleared as were pending
-  pub refuses : (n count : ℕ) (c : Context) (l : List ℕ) → count ≡ pending c l → count ≤ length (d .block)
-      → Left ring (afterNext (refuse n count d)) (done (withLastWord c l (refused n) b))
+  pub refuses : (why : Refusal) (count : ℕ) (c : Context) (l : List ℕ) → count ≡ pending c l → count ≤ length (d .block)
+      → Left ring (afterNext (refuse why count d)) (done (withLastWord c l (refused (why .number) (why .at)) b))
   unfolding refuse withLastWord
-  refuses n count c l e h =
+  refuses why count c l e h =
       let m : D.cleared count (d .block) ≡ front (replicate (pending c l) 0) (b .block) =
       cleared-front count (d .block) h
       ∙ ap (λ (k : ℕ). front (replicate k 0) (d .block)) e

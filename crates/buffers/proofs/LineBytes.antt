@@ -16,6 +16,7 @@ use Rattle.stream.specs.Blocks.{isWholeLine, chunkSize, lineFault, chained, blo
 use Rattle.stream.specs.Buffers.{Buffers, front, withSection, withMessage, pending, effects}
 use Rattle.stream.specs.Limits.{lineLimit}
 use Rattle.stream.specs.Lines.{Field}
+use Rattle.stream.specs.Places.{linePlace}
 use Rattle.stream.specs.Ring.{Ring}
 use Rattle.stream.specs.Stream.{Show, Past, nothing, isWhole, announced, unlessBroken, judge, judgeFirstLine, judgeNextLine, blockOffset, bodyWith, blockQuestion, acceptBlock, rules}
 use Rattle.stream.specs.Stream as C
@@ -45,11 +46,11 @@ module _ (ring : Ring) (fields : List Field) (d : Configuration) (x : ℕ) (lent
     first = lined d (P.FirstLine (have + 1)) line
 
     first-answered : (fault : ℕ)
-        → Left ring (afterNext (firstAnswered first (unlessFault fault (goodLine (chunkSize l) (signatureOf l)) .answer)))
-        (markOf (rulingOn (rules ring) effects (C.firstLine s) l (unlessBroken fault (go (announced s nothing 0 (chunkSize l)))) b))
+        → Left ring (afterNext (firstAnswered first (unlessFault fault l (goodLine (chunkSize l) (signatureOf l)) .answer)))
+        (markOf (rulingOn (rules ring) effects (C.firstLine s) l (unlessBroken fault (linePlace l) (go (announced s nothing 0 (chunkSize l)))) b))
     unfolding firstAnswered pending
     first-answered zero = begins _ b f _
-    first-answered (suc n) = refuses first b f (suc n) 0 (C.firstLine s) l refl (omega arith)
+    first-answered (suc n) = refuses first b f _ 0 (C.firstLine s) l refl (omega arith)
 
     first-by : (N : ℕ) → N ≡ s .size → (t : Bool)
         → Left ring (afterNext (pick t (firstAnswered first (lineJudged N false true 0 l .answer)) (on first)))
@@ -90,11 +91,11 @@ module _ (ring : Ring) (fields : List Field) (d : Configuration) (x : ℕ) (lent
 
     next-answered : (fault : ℕ)
         → Left ring
-        (afterNext (nextAnswered next size (unlessFault fault (goodLine (chunkSize l) (signatureOf l)) .answer) (unlessFault fault (goodLine (chunkSize l) (signatureOf l)) .signature)))
-        (markOf (rulingOn (rules ring) effects (C.nextLine s p block) l (unlessBroken fault (acceptBlock s p block l)) b))
+        (afterNext (nextAnswered next size (unlessFault fault l (goodLine (chunkSize l) (signatureOf l)) .answer) (unlessFault fault l (goodLine (chunkSize l) (signatureOf l)) .signature)))
+        (markOf (rulingOn (rules ring) effects (C.nextLine s p block) l (unlessBroken fault (linePlace l) (acceptBlock s p block l)) b))
     unfolding nextAnswered pending
     next-answered zero = asked-left
-    next-answered (suc n) = refuses next b f (suc n) size (C.nextLine s p block) l (sym (u .bytes .count)) (within (u .bytes))
+    next-answered (suc n) = refuses next b f _ size (C.nextLine s p block) l (sym (u .bytes .count)) (within (u .bytes))
 
     next-by : (t : Bool)
         → Left ring

@@ -10,6 +10,7 @@ use Rattle.sections.specs.Calls.{feed, answer, end}
 use Rattle.sections.specs.Machine.{running}
 use Rattle.sections.proofs.Marks.{midway, waiting, done, stateOf}
 use Rattle.sections.proofs.Marking.{respondTo}
+use Rattle.refusals.specs.Refusals.{plain}
 use Rattle.stream.specs.Buffers.{withSection, pending, effects}
 use Rattle.stream.specs.Ring.{Ring}
 use Rattle.stream.specs.Stream.{Context, rules}
@@ -63,11 +64,11 @@ module _ (ring : Ring) (h : Handed) (d : Configuration) where
   roomy p c g (F.trailer most a e) = within a
 
   pub end-leaves : (m : Reached) → Holds ring d h (stateOf m) → Left ring d m
-      → Left ring (pick (isReading (d .reader .phase)) (given 0 (refuse 11 (D.pending (d .reader .phase)) (recalled d))) (unchanged 1 d) .after) (respondTo (rules ring) effects m end)
+      → Left ring (pick (isReading (d .reader .phase)) (given 0 (refuse (plain 11) (D.pending (d .reader .phase)) (recalled d))) (unchanged 1 d) .after) (respondTo (rules ring) effects m end)
   unfolding respondTo rules refuse
   end-leaves (midway c g b) k l =
       rw (reading-phase (k .stands))
-      (refuses (recalled d) (withSection c g b) (l .same) 11 (D.pending (d .reader .phase)) c g (counted (d .reader .phase) c g (k .stands)) (roomy (d .reader .phase) c g (k .stands)))
+      (refuses (recalled d) (withSection c g b) (l .same) (plain 11) (D.pending (d .reader .phase)) c g (counted (d .reader .phase) c g (k .stands)) (roomy (d .reader .phase) c g (k .stands)))
   end-leaves (waiting c t y b) k l = rw (asked-phase (k .stands)) l
   end-leaves (done b) k l = rw (finished-phase (k .stands)) l
 
@@ -77,9 +78,9 @@ module _ (ring : Ring) (h : Handed) (d : Configuration) where
       → Left ring (answerAt p d good .after) (respondTo (rules ring) effects m (answer good))
   unfolding answerAt headAnswer blockAnswer releasing respondTo rules refuse
   answer-leaves p (waiting c t y b) true (F.headAsked a) l w = begins _ b (l .same) _
-  answer-leaves p (waiting c t y b) false (F.headAsked a) l w = refuses d b (l .same) 10 0 c t w (omega arith)
+  answer-leaves p (waiting c t y b) false (F.headAsked a) l w = refuses d b (l .same) (plain 10) 0 c t w (omega arith)
   answer-leaves p (waiting c t y b) true (F.blockAsked a) l w = begins _ b (l .same) _
-  answer-leaves p (waiting c t y b) false (F.blockAsked {size} a) l w = refuses d b (l .same) 10 size c t w (within (a .bytes))
+  answer-leaves p (waiting c t y b) false (F.blockAsked {size} a) l w = refuses d b (l .same) (plain 10) size c t w (within (a .bytes))
   answer-leaves p (midway c g b) good (F.head early a e) l w = l
   answer-leaves p (midway c g b) good (F.firstLine k sound none a e) l w = l
   answer-leaves p (midway c g b) good (F.blockData k t sound a e) l w = l

@@ -9,6 +9,7 @@ use Prim.Native.Nat.{ℕ, _+_, _≤_}
 use lib.Dec.{leb}
 use lib.ListN.{length}
 use Rattle.octets.specs.Choice.{pick}
+use Rattle.refusals.specs.declared.Refusal.{Refusal}
 use Rattle.ring.specs.Keys.{ringOf}
 use Rattle.ring.specs.declared.KeyRing.{KeyRing}
 use Rattle.sections.specs.Calls.{Request, feed, answer, end}
@@ -43,9 +44,9 @@ bound-pick d false a b f g = g refl
 bound-unchanged : (d : Configuration) (n : ℕ) → Bound d (unchanged n d)
 bound-unchanged d n = record { long = record { head = refl; block = refl; question = refl }; named = tt }
 
-bound-refuse : (d : Configuration) (n count : ℕ) → Bound d (given 0 (refuse n count d))
+bound-refuse : (d : Configuration) (why : Refusal) (count : ℕ) → Bound d (given 0 (refuse why count d))
 unfolding refuse
-bound-refuse d n count = record { long = record { head = refl; block = length-cleared count (d .block); question = refl }; named = tt }
+bound-refuse d why count = record { long = record { head = refl; block = length-cleared count (d .block); question = refl }; named = tt }
 
 -- ---- a feed
 
@@ -97,12 +98,12 @@ roomy-block h b q e = leb-true blockLimit b (left-holds (leb blockLimit b) _ (ri
 block-bound : (size next : ℕ) (d : Configuration) (good : Bool) → blockLimit ≤ length (d .block) → Bound d (blockAnswer size next d good)
 unfolding blockAnswer
 block-bound size next d true m = record { long = record { head = refl; block = refl; question = refl }; named = (omega arith, omega arith) }
-block-bound size next d false m = bound-refuse d 10 size
+block-bound size next d false m = bound-refuse d _ size
 
 head-bound : (n : ℕ) (d : Configuration) (good : Bool) → Bound d (headAnswer n d good)
 unfolding headAnswer
 head-bound n d true = record { long = record { head = refl; block = refl; question = refl }; named = tt }
-head-bound n d false = bound-refuse d 10 0
+head-bound n d false = bound-refuse d _ 0
 
 answer-at-bound : (p : Phase) (d : Configuration) (good : Bool) → blockLimit ≤ length (d .block) → Bound d (answerAt p d good)
 unfolding answerAt
@@ -126,7 +127,7 @@ end-bound : (d : Configuration) → Bound d (endOf d)
 unfolding endOf
 end-bound d =
     bound-pick d (fits d) _ _
-    (λ e. bound-pick d (isReading (d .reader .phase)) _ _ (λ f. longer (record { head = refl; block = refl; question = refl }) (bound-refuse (recalled d) 11 (pending (d .reader .phase)))) (λ f. bound-unchanged d 1))
+    (λ e. bound-pick d (isReading (d .reader .phase)) _ _ (λ f. longer (record { head = refl; block = refl; question = refl }) (bound-refuse (recalled d) _ (pending (d .reader .phase)))) (λ f. bound-unchanged d 1))
     (λ e. bound-unchanged d 2)
 
 -- EVERY CALL.

@@ -9,6 +9,7 @@ use Prim.Native.Nat.{ℕ, _+_, _≤_}
 use lib.Dec.{eqb, leb}
 use lib.ListN.{length, take, drop, set, length-set, length-append, length-drop}
 use Rattle.octets.specs.Choice.{pick}
+use Rattle.refusals.specs.declared.Refusal.{Refusal}
 use Rattle.stream.specs.Head.{isWholeHead, headOf, signingString, headFault, trustedBy}
 use Rattle.stream.specs.Limits.{blockLimit}
 use Rattle.stream.specs.Ring.{Ring, numberOf}
@@ -47,9 +48,9 @@ pub named-pick : (d : Configuration) (t : Bool) (m n : Next) → NamedNext m d �
 named-pick d true m n a b = a
 named-pick d false m n a b = b
 
-pub named-refuse : (n count : ℕ) (e d : Configuration) → NamedNext (refuse n count e) d
+pub named-refuse : (why : Refusal) (count : ℕ) (e d : Configuration) → NamedNext (refuse why count e) d
 unfolding refuse
-named-refuse n count e d = tt
+named-refuse why count e d = tt
 
 -- a question of at most m bytes, or none
 abbrev AsksUpTo : ℕ → HeadAnswer → Type 0
@@ -94,9 +95,9 @@ long-pick : (d : Configuration) (t : Bool) (m n : Next) → Long d (deskOf m) �
 long-pick d true m n a b = a
 long-pick d false m n a b = b
 
-refused-long : (n count : ℕ) (d : Configuration) → Long d (deskOf (refuse n count d))
+refused-long : (why : Refusal) (count : ℕ) (d : Configuration) → Long d (deskOf (refuse why count d))
 unfolding refuse
-refused-long n count d = record { head = refl; block = length-cleared count (d .block); question = refl }
+refused-long why count d = record { head = refl; block = length-cleared count (d .block); question = refl }
 
 long-trans : {d e f : Configuration} → Long d e → Long e f → Long d f
 long-trans l m = record { head = m .head ∙ l .head; block = m .block ∙ l .block; question = m .question ∙ l .question }
@@ -109,7 +110,7 @@ head-long ring d have x =
     let s : Long d e = record { head = length-set (d .head) have x; block = refl; question = refl } in
     let j = headJudged ring (take (have + 1) l) (d .question) in
     let k : Long e (configuration (e .reader) l (d .block) (j .question)) = record { head = refl; block = refl; question = judges ring (take (have + 1) l) (d .question) .long } in
-    long-pick d (leb (length (d .head)) have) _ _ (refused-long 3 0 d)
+    long-pick d (leb (length (d .head)) have) _ _ (refused-long _ 0 d)
     (long-pick d (isWholeHead (take (have + 1) l)) _ _ (long-trans s (long-trans k (answered-long _ (have + 1) (j .answer .answer) (j .answer .signature) (j .answer .id)))) s)
 
 pub head-named : (ring : Ring) (d : Configuration) (have x : ℕ) → NamedNext (pushHead ring d have x) d
@@ -117,7 +118,7 @@ unfolding pushHead headGathered
 head-named ring d have x =
     let l = set (d .head) have x in
     let j = headJudged ring (take (have + 1) l) (d .question) in
-    named-pick d (leb (length (d .head)) have) _ _ (named-refuse 3 0 d d)
+    named-pick d (leb (length (d .head)) have) _ _ (named-refuse _ 0 d d)
     (named-pick d (isWholeHead (take (have + 1) l)) _ _
     (answered-named _ (have + 1) d (j .answer .answer) (j .answer .signature) (j .answer .id) (judges ring (take (have + 1) l) (d .question) .asks))
     tt)

@@ -77,18 +77,18 @@ unfolding pushAt pushData pushDataEnd pushFirstLine firstGathered pushNextLine n
 named-push ring d (P.Head have) x = head-named ring d have x
 named-push ring d (P.HeadAsked n) x = tt
 named-push ring d (P.FirstLine have) x =
-    named-pick d (leb lineLimit have) _ _ (named-refuse 6 0 d d)
+    named-pick d (leb lineLimit have) _ _ (named-refuse _ 0 d d)
     (named-pick d (isWholeLine (take (have + 1) (set (d .reader .line) have x))) _ _ (named-first _ d _) tt)
-named-push ring d (P.Data have size) x = named-pick d (leb (length (d .block)) have) _ _ (named-refuse 6 have d d) tt
+named-push ring d (P.Data have size) x = named-pick d (leb (length (d .block)) have) _ _ (named-refuse _ have d d) tt
 named-push ring d (P.DataEnd have size) x =
-    named-pick d (eqb have 0) _ _ tt (named-pick d (same (getD (d .reader .line) 0 0 ∷ x ∷ []) crlf) _ _ tt (named-refuse 6 size d d))
+    named-pick d (eqb have 0) _ _ tt (named-pick d (same (getD (d .reader .line) 0 0 ∷ x ∷ []) crlf) _ _ tt (named-refuse _ size d d))
 named-push ring d (P.NextLine have size) x =
-    named-pick d (leb lineLimit have) _ _ (named-refuse 6 size d d)
+    named-pick d (leb lineLimit have) _ _ (named-refuse _ size d d)
     (named-pick d (isWholeLine (take (have + 1) (set (d .reader .line) have x))) _ _ (named-next _ d size _ _ refl) tt)
 named-push ring d (P.BlockAsked size next) x = tt
 named-push ring d (P.Trailer have total) x =
     let text = take (have + 1) (set (d .block) have x) in
-    named-pick d (leb (length (d .block)) have) _ _ (named-refuse 6 have d d)
-    (named-pick d (isWholeTrailer text) _ _ (named-pick d (isTrailer text) _ _ tt (named-refuse 6 (have + 1) _ d)) tt)
+    named-pick d (leb (length (d .block)) have) _ _ (named-refuse _ have d d)
+    (named-pick d (isWholeTrailer text) _ _ (named-pick d (isTrailer text) _ _ tt (named-refuse _ (have + 1) _ d)) tt)
 named-push ring d (P.Closed total) x = tt
 named-push ring d (P.Refused n) x = tt

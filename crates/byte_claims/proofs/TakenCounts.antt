@@ -5,6 +5,7 @@ use Prim.Native.Nat.{ℕ, _≤_}
 use native.Mathlib.Omega.{arith}
 use lib.Dec.{leb}
 use Rattle.octets.specs.Choice.{pick}
+use Rattle.refusals.specs.declared.Refusal.{Refusal}
 use Rattle.ring.specs.Keys.{ringOf}
 use Rattle.ring.specs.declared.KeyRing.{KeyRing}
 use Rattle.sections.specs.Calls.{Request, feed, answer, end}
@@ -23,19 +24,19 @@ taken-pick : (n : ℕ) (t : Bool) (c e : Response) → c .taken ≤ n → e .tak
 taken-pick n true c e a b = a
 taken-pick n false c e a b = b
 
-refused-taken : (n k count : ℕ) (d : Configuration) → given 0 (refuse k count d) .taken ≤ n
+refused-taken : (n : ℕ) (why : Refusal) (count : ℕ) (d : Configuration) → given 0 (refuse why count d) .taken ≤ n
 unfolding refuse
-refused-taken n k count d = omega arith
+refused-taken n why count d = omega arith
 
 answer-taken : (p : Phase) (d : Configuration) (good : Bool) → answerAt p d good .taken ≤ 0
 unfolding answerAt headAnswer blockAnswer
 answer-taken (P.Head n) d good = omega arith
-answer-taken (P.HeadAsked n) d good = taken-pick 0 good _ _ (omega arith) (refused-taken 0 10 0 d)
+answer-taken (P.HeadAsked n) d good = taken-pick 0 good _ _ (omega arith) (refused-taken 0 _ 0 d)
 answer-taken (P.FirstLine n) d good = omega arith
 answer-taken (P.Data have size) d good = omega arith
 answer-taken (P.DataEnd have size) d good = omega arith
 answer-taken (P.NextLine have size) d good = omega arith
-answer-taken (P.BlockAsked size next) d good = taken-pick 0 good _ _ (omega arith) (refused-taken 0 10 size d)
+answer-taken (P.BlockAsked size next) d good = taken-pick 0 good _ _ (omega arith) (refused-taken 0 _ size d)
 answer-taken (P.Trailer have total) d good = omega arith
 answer-taken (P.Closed total) d good = omega arith
 answer-taken (P.Refused n) d good = omega arith
@@ -47,4 +48,4 @@ call-taken keys d (feed piece) =
     (taken-pick _ (isReading (d .reader .phase)) _ _ (omega (arith, run-takes (pushByte (ringOf keys)) (recalled d) 0 piece .most)) (omega arith))
     (omega arith)
 call-taken keys d (answer good) = taken-pick 0 (fits d) _ _ (answer-taken (d .reader .phase) d good) (omega arith)
-call-taken keys d end = taken-pick 0 (fits d) _ _ (taken-pick 0 (isReading (d .reader .phase)) _ _ (refused-taken 0 11 _ (recalled d)) (omega arith)) (omega arith)
+call-taken keys d end = taken-pick 0 (fits d) _ _ (taken-pick 0 (isReading (d .reader .phase)) _ _ (refused-taken 0 _ _ (recalled d)) (omega arith)) (omega arith)

@@ -10,6 +10,7 @@ use types.Run.{OneOf, miss}
 use Rattle.blocks.specs.Place.{largest}
 use Rattle.blocks.specs.declared.offsets.BlockNumber.{BlockNumber}
 use Rattle.octets.specs.Choice.{pick}
+use Rattle.refusals.specs.declared.Refusal.{Refusal}
 use Rattle.state.specs.Configuration.{Configuration, configuration, goesOn, nextOf, Next, on, stop, refuse}
 use Rattle.state.specs.declared.phase.Phase.{Phase}
 use Rattle.state.specs.declared.phase.Phase.the-variants as P
@@ -36,9 +37,9 @@ given-stop : (t : Bool) (w : Word) (signature : List ℕ) (d : Configuration) (t
 given-stop true w signature d taken e = no (sym e)
 given-stop false w signature d taken e = refl
 
-pub refused-call : (s : Stepped) (h b q : List ℕ) (n count : ℕ) (d : Configuration) → nextOf s h b q ≡ refuse n count d → response (s .word) 0 (s .signature) (configuration (s .reader) h b q) ≡ given 0 (refuse n count d)
+pub refused-call : (s : Stepped) (h b q : List ℕ) (why : Refusal) (count : ℕ) (d : Configuration) → nextOf s h b q ≡ refuse why count d → response (s .word) 0 (s .signature) (configuration (s .reader) h b q) ≡ given 0 (refuse why count d)
 unfolding refuse
-refused-call s h b q n count d e =
+refused-call s h b q why count d e =
     let g : goesOn (s .word) ≡ false = sym (is-on (goesOn (s .word)) (s .word) (s .signature) (configuration (s .reader) h b q)) ∙ ap isOn e in
     sym (given-stop (goesOn (s .word)) (s .word) (s .signature) (configuration (s .reader) h b q) 0 g) ∙ ap (λ (n : Next). given 0 n) e
 

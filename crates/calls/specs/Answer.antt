@@ -4,6 +4,7 @@ use Prim.Native.Nat.{ℕ, _+_, min}
 use Rattle.blocks.specs.Place.{largest}
 use Rattle.blocks.specs.declared.offsets.BlockNumber.{BlockNumber}
 use Rattle.octets.specs.Choice.{pick}
+use Rattle.refusals.specs.Refusals.{plain}
 use Rattle.stream.specs.Limits.{blockLimit}
 use Rattle.state.specs.Configuration.{Configuration, configuration, readerAt, pending, refuse}
 use Rattle.state.specs.declared.phase.Phase.{Phase}
@@ -32,7 +33,7 @@ unfoldable pub headAnswer : ℕ → Configuration → Bool → Response
 headAnswer n d good =
     pick good
     (telling (W.Head (d .reader .fixed .status)) 0 (configuration (accepting (d .reader) n) (d .head) (d .block) (d .question)))
-    (given 0 (refuse 10 0 d))
+    (given 0 (refuse (plain 10) 0 d))
 
 -- ---- a block's question
 
@@ -58,7 +59,7 @@ blockAnswer size next d good =
     pick good
     (telling (W.Block (offsetNow (d .reader)) (blockLength size)) 0
     (configuration (releasing (d .reader) (blockLength size) next) (d .head) (d .block) (d .question)))
-    (given 0 (refuse 10 size d))
+    (given 0 (refuse (plain 10) size d))
 
 -- ---- the calls
 
@@ -82,5 +83,5 @@ answerOf d good = pick (fits d) (answerAt (d .reader .phase) d good) (unchanged 
 unfoldable pub endOf : Configuration → Response
 endOf d =
     pick (fits d)
-    (pick (isReading (d .reader .phase)) (given 0 (refuse 11 (pending (d .reader .phase)) (recalled d))) (unchanged 1 d))
+    (pick (isReading (d .reader .phase)) (given 0 (refuse (plain 11) (pending (d .reader .phase)) (recalled d))) (unchanged 1 d))
     (unchanged 2 d)

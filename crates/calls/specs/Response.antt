@@ -5,6 +5,7 @@ use mathlib.Core.List.{List}
 use Prim.Native.Nat.{ℕ}
 use lib.Dec.{leb}
 use lib.ListN.{length}
+use Rattle.refusals.specs.Refusals.{plain}
 use Rattle.stream.specs.Limits.{headLimit, blockLimit}
 use Rattle.state.specs.Configuration.{Configuration, configuration, readerAt, Next, on, stop, noSignature}
 use Rattle.state.specs.declared.phase.Phase.{Phase}
@@ -34,7 +35,7 @@ made o h b q = response (o .word) (o .taken) (o .signature) (configuration (o .r
 
 -- refusals 1 and 2: "nothing changed, 0 taken"
 abbrev pub unchanged : ℕ → Configuration → Response
-unchanged n d = telling (W.Refused n) 0 d
+unchanged n d = telling (W.Refused (plain n)) 0 d
 
 -- what a step leads to, as the end of a call that has taken so many bytes
 abbrev pub given : ℕ → Next → Response

@@ -60,7 +60,12 @@ fn answer_head(r: Reader, n: usize, good: bool) -> Outcome
     ensures { λ o. ⌜ ((h b q : List ℕ) → made o h b q ≡ headAnswer n (configuration r h b q) good) ⌝ }
 {
     if !good {
-        return told(Word::Refused(10), 0, state::in_phase(r, Phase::Refused(10)));
+        let why = refusals::plain(10);
+        return told(
+            Word::Refused(why),
+            0,
+            state::in_phase(r, Phase::Refused(10)),
+        );
     }
     let fixed = r.fixed;
     told(Word::Head(fixed.status), 0, accepted(r, n))
@@ -72,7 +77,8 @@ fn answer_block(r: Reader, block: &mut [u8], size: usize, next: usize, good: boo
     ensures { λ o. ⌜ ((h q : List ℕ) → made o h (now (block .exit)) q ≡ blockAnswer size next (configuration r h (now (block .entry)) q) good) ⌝ }
 {
     if !good {
-        let s = state::refused(r, block, size, 10);
+        let why = refusals::plain(10);
+        let s = state::refused(r, block, size, why);
         return ended(s, 0);
     }
     let length = places::least(size, BLOCK_ROOM);

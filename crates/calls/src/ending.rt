@@ -23,6 +23,7 @@ pub fn end(r: Reader, head: &mut [u8], block: &mut [u8], question: &mut [u8]) ->
         return unchanged(r, 1);
     }
     let count = state::pending(phase);
-    let s = state::refused(recalled(r), block, count, 11);
+    let why = refusals::plain(11);
+    let s = state::refused(recalled(r), block, count, why);
     ended(s, 0)
 }

@@ -4,6 +4,7 @@ use state::Reader;
 use state::Stepped;
 use state::Word;
 ghost use mathlib.Core.Path.{_≡_};
+ghost use Rattle.refusals.specs.Refusals.{plain};
 ghost use Rattle.state.specs.Configuration.{noSignature};
 ghost use Rattle.calls.specs.Response.{areRoomy, isReading, takingBack};
 
@@ -35,9 +36,9 @@ pub fn told(word: Word, taken: usize, r: Reader) -> Outcome
 
 // A refusal that changes nothing: 1 where the call is not due, 2 where a buffer or the ring has not the size that is asked.
 pub fn unchanged(r: Reader, number: u8) -> Outcome
-    ensures { λ o. ⌜ o ≡ record { word = Word.Refused number; taken = 0; signature = noSignature; reader = r } ⌝ }
+    ensures { λ o. ⌜ o ≡ record { word = Word.Refused (plain number); taken = 0; signature = noSignature; reader = r } ⌝ }
 {
-    told(Word::Refused(number), 0, r)
+    told(Word::Refused(refusals::plain(number)), 0, r)
 }
 
 // The end of a call by what its last step leads to.

@@ -14,7 +14,7 @@ use Rattle.stream.specs.Blocks.{isChunkLine, carriesSignature, chunkSize, lineS
 use Rattle.stream.specs.Limits.{bodyLimit}
 use Rattle.chunk.specs.Judging.{zeros, signatureOf, goodLine, unlessFault, lineJudged}
 use Rattle.chunk.specs.declared.judging.Line.{Line}
-use Rattle.chunk.specs.declared.judging.LineAnswer.the-variants.{Refused, Good}
+use Rattle.chunk.specs.declared.judging.LineAnswer.the-variants.{Good}
 
 -- a good line, by the size that it announces and the signature that it carries
 pub record Accepted (N : ℕ) (due full : Bool) (sofar : ℕ) (l : List ℕ) (size : ℕ) (signature : List ℕ) : Type 0 where
@@ -32,29 +32,22 @@ same-bool true b e = e
 same-bool false true e = sym e
 same-bool false false e = refl
 
--- no line is both
-answers-refused : (n m : ℕ) (size : ℕ) (s : List ℕ) → unlessFault m (goodLine size s) .answer ≡ Refused n → (m ≡ n) × (n ≡ 0 → ⊥)
-answers-refused n zero size s e = let z : _≡_ {A = ℕ} 0 1 = cc in absurd (omega arith)
-answers-refused n (suc m) size s e = let w : suc m ≡ n = cc in (w, λ h. omega arith)
-
-answers-good : (n m : ℕ) (size : ℕ) (s : List ℕ) → unlessFault m (goodLine size s) .answer ≡ Good n → (m ≡ 0) × (n ≡ size)
-answers-good n zero size s e = (refl, cc)
-answers-good n (suc m) size s e = let z : _≡_ {A = ℕ} 0 1 = cc in absurd (omega arith)
+-- a good line is not refused
+answers-good : (n m : ℕ) (l : List ℕ) (size : ℕ) (s : List ℕ) → unlessFault m l (goodLine size s) .answer ≡ Good n → (m ≡ 0) × (n ≡ size)
+answers-good n zero l size s e = (refl, cc)
+answers-good n (suc m) l size s e = let z : _≡_ {A = ℕ} 0 1 = cc in absurd (omega arith)
 
 module _ (N : ℕ) (due full : Bool) (sofar : ℕ) (l : List ℕ) {line : Line} (said : line ≡ lineJudged N due full sofar l) where
   abbrev fault : ℕ
   fault = lineFault N due full sofar l
 
-  said-answer : line .answer ≡ unlessFault fault (goodLine (chunkSize l) (signatureOf l)) .answer
+  said-answer : line .answer ≡ unlessFault fault l (goodLine (chunkSize l) (signatureOf l)) .answer
   unfolding lineJudged
   said-answer = ap (λ (x : Line). x .answer) said
 
-  pub line-refused : (n : ℕ) → line .answer ≡ Refused n → (fault ≡ n) × (n ≡ 0 → ⊥)
-  line-refused n e = answers-refused n fault (chunkSize l) (signatureOf l) (sym said-answer ∙ e)
-
   module _ (n : ℕ) (e : line .answer ≡ Good n) where
     all-kept : (fault ≡ 0) × (n ≡ chunkSize l)
-    all-kept = answers-good n fault (chunkSize l) (signatureOf l) (sym said-answer ∙ e)
+    all-kept = answers-good n fault l (chunkSize l) (signatureOf l) (sym said-answer ∙ e)
 
     said-signature : line .signature ≡ signatureOf l
     unfolding lineJudged

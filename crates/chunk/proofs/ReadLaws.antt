@@ -80,12 +80,12 @@ module _ (t : List ℕ) (end : ℕ) (f : end ≡ 0 + length (run (classOf Hex) (
   pub text-sized : (n : ℕ) → hexRead 8 (take (end - 0) (drop 0 t)) ≡ Value n → textRead t ≡ extensionRead n (take (length t - end) (drop end t))
   unfolding textRead
   text-sized n e =
-      let w = hex-found 8 (run isHex t) n (lit≤ tt) (rw digits-are at e) in
+      let w = hex-found 8 (run isHex t) (lit≤ tt) n (rw digits-are at e) in
       rw (w .0, w .1, rest-is t end, digits-end, past-drop)
 
-  pub text-unsized : hexRead 8 (take (end - 0) (drop 0 t)) ≡ Bad → textRead t ≡ wrong
+  pub text-unsized : (p : ℕ) → hexRead 8 (take (end - 0) (drop 0 t)) ≡ Bad p → textRead t ≡ wrong
   unfolding textRead
-  text-unsized e = rw (hex-missed 8 (run isHex t) (lit≤ tt) (rw digits-are at e))
+  text-unsized p e = rw (hex-missed 8 (run isHex t) (lit≤ tt) p (rw digits-are at e))
 
 -- ---- the whole line
 

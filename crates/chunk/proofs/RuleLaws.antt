@@ -49,9 +49,9 @@ module _ (N : ℕ) (due full : Bool) (sofar : ℕ) (signed : Bool) (size : ℕ) 
 
 -- ---- the line
 
-unless-broken : (n : ℕ) (line : Line) → (n ≡ 0 → ⊥) → unlessFault n line ≡ refusedLine n
-unless-broken zero line h = absurd (h refl)
-unless-broken (suc n) line h = refl
+unless-broken : (n : ℕ) (l : List ℕ) (line : Line) → (n ≡ 0 → ⊥) → unlessFault n l line ≡ refusedLine n l
+unless-broken zero l line h = absurd (h refl)
+unless-broken (suc n) l line h = refl
 
 module _ (N : ℕ) (due full : Bool) (sofar : ℕ) (l : List ℕ) where
   fault-is : lineFault N due full sofar l ≡ pick (isChunkLine l) (firstBroken (blockRules N due full sofar (carriesSignature l) (chunkSize l))) 6
@@ -71,7 +71,7 @@ module _ (N : ℕ) (due full : Bool) (sofar : ℕ) (l : List ℕ) where
     unfolding lineRead
     text-parts g = r ∙ rw (sym text-is ∙ g)
 
-    pub judged-unread : text .good ≡ false → lineJudged N due full sofar l ≡ refusedLine 6
+    pub judged-unread : text .good ≡ false → lineJudged N due full sofar l ≡ refusedLine 6 l
     unfolding lineJudged
     judged-unread g = rw (fault-is, sym text-is ∙ g)
 
@@ -79,9 +79,9 @@ module _ (N : ℕ) (due full : Bool) (sofar : ℕ) (l : List ℕ) where
       fault-rules : lineFault N due full sofar l ≡ n
       fault-rules = fault-is ∙ rw (sym text-is ∙ g, b, text-parts g)
 
-      pub judged-broken : (n ≡ 0 → ⊥) → lineJudged N due full sofar l ≡ refusedLine n
+      pub judged-broken : (n ≡ 0 → ⊥) → lineJudged N due full sofar l ≡ refusedLine n l
       unfolding lineJudged
-      judged-broken h = rw fault-rules (unless-broken n _ h)
+      judged-broken h = rw fault-rules (unless-broken n l _ h)
 
       pub judged-good : n ≡ 0 → lineJudged N due full sofar l ≡ goodLine (text .size) (text .signature)
       unfolding lineJudged

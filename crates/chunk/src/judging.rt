@@ -1,5 +1,6 @@
 // A chunk line against its rules, in their order: the text, the signature, the block's size, the body's size.
 use crate::reading::read;
+use refusals::Refusal;
 ghost use mathlib.Core.Path.{_≡_};
 ghost use Rattle.stream.specs.Rule.{firstBroken};
 ghost use Rattle.chunk.specs.Judging.{refusedLine, lineJudged};
@@ -9,8 +10,7 @@ ghost use Rattle.chunk.specs.Parts.{blockRules};
 const BODY_LIMIT: u64 = 4_294_967_296;
 
 pub enum LineAnswer {
-    // by the rule of this number
-    Refused(u8),
+    Refused(Refusal),
     // announces so many bytes
     Good { size: u64 },
 }
@@ -21,11 +21,13 @@ pub struct Line {
     pub signature: [u8; 64],
 }
 
-fn refused(number: u8) -> Line
-    ensures { λ r. ⌜ r ≡ refusedLine number ⌝ }
+// The place is that of the line's text.
+fn refused(line: &[u8], number: u8) -> Line
+    ensures { λ r. ⌜ r ≡ refusedLine number (now (line .entry)) ⌝ }
 {
+    let why = refusals::of_section(number, scanning::line_place(line));
     Line {
-        answer: LineAnswer::Refused(number),
+        answer: LineAnswer::Refused(why),
         signature: [0u8; 64],
     }
 }
@@ -57,13 +59,13 @@ pub fn judge(line: &[u8], size: usize, due: bool, full: bool, so_far: u64) -> Li
 {
     let text = read(line);
     if !text.good {
-        return refused(6);
+        return refused(line, 6);
     }
     let chunk = text.size;
     let signed = text.signed;
     let fault = broken(chunk, signed, size as u64, due, full, so_far);
     if fault != 0 {
-        return refused(fault);
+        return refused(line, fault);
     }
     let signature = text.signature;
     Line {

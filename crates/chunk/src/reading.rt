@@ -57,7 +57,7 @@ fn read_text(s: &[u8]) -> ChunkText
     let end = classes::run_end(s, 0, Class::Hex);
     match number::hex(&s[0..end], 8) {
         Number::Value(size) => read_extension(&s[end..], size),
-        Number::Bad => wrong(),
+        Number::Bad(_) => wrong(),
     }
 }
 

@@ -29,16 +29,16 @@ eventTold (question q) = nothing
 eventTold (message (S.headAccepted status value)) = nothing
 eventTold (message (S.block o n b)) = counts 1 n 0 0
 eventTold (last (closed total)) = counts 0 0 1 0
-eventTold (last (refused n)) = refusalCounts n
+eventTold (last (refused n at)) = refusalCounts n
 
 abbrev wordTold : Reply Question Told LastWord → Counts
 wordTold more = nothing
 wordTold (event e) = eventTold e
 wordTold (misused n) = nothing
 
-refusal-counts : (n : ℕ) (t : Bool) → isOfCall n ≡ t → refusalCounts n ≡ wordTold (pick t (misused n) (event (last (refused n))))
-refusal-counts n true e = rw e
-refusal-counts n false e = refl
+refusal-counts : (n at : ℕ) (t : Bool) → isOfCall n ≡ t → refusalCounts n ≡ wordTold (pick t (misused n) (event (last (refused n at))))
+refusal-counts n at true e = rw e
+refusal-counts n at false e = refl
 
 question-counts : (t : Bool) (x : Question) → nothing ≡ wordTold (pick t (event (question x)) (misused 0))
 question-counts true x = refl
@@ -51,7 +51,7 @@ word-seen (W.Question n key) signature d = question-counts (leb n (length (d .qu
 word-seen (W.Head status) signature d = refl
 word-seen (W.Block o n) signature d = refl
 word-seen (W.Closed total) signature d = refl
-word-seen (W.Refused n) signature d = refusal-counts n (isOfCall n) refl
+word-seen (W.Refused why) signature d = refusal-counts (why .number) (why .at) (isOfCall (why .number)) refl
 
 -- ---- of a run
 
@@ -83,7 +83,7 @@ told-counts (x ∷ log) = rw (one (x .1), told-counts log)
     one (message (headAccepted status fields)) = refl
     one (message (block o b)) = refl
     one (last (closed total)) = refl
-    one (last (refused n)) = refl
+    one (last (refused n at)) = refl
 
 run-counted : (keys : KeyRing) (h b q : List ℕ) (ks : List Invocation) → wordsCount (wordsOfRun keys h b q ks) ≡ countsOf (eventsRead keys h b q ks)
 unfolding wordsOfRun run

@@ -15,6 +15,7 @@ pub mod Known
 pub mod Asking
 pub mod Handed
 pub mod CallNumbers
+pub mod Refused
 pub mod Numbers
 pub mod Closed
 pub mod Left

@@ -6,6 +6,7 @@ pub mod Ordinary
 pub mod Demand1
 pub mod Demand2
 pub mod Demand3
+pub mod Refused
 pub mod Numbers
 pub mod SignedValues
 pub mod Handed

@@ -27,7 +27,7 @@ module _ (ring : Ring) where
   Origin front yeses (last (closed total)) =
       (w : Beginning) × (t : List ℕ) × Good ring w × (announces w ≡ 0) × GoodTrailer t
       × (written w ++ t ≡ front) × (length (body w) ≡ total) × (yeses ≡ questions w)
-  Origin front yeses (last (refused n)) = Unit {0}
+  Origin front yeses (last (refused n at)) = Unit {0}
 
   origin : (front : List ℕ) (yeses : ℕ) (e : StreamEvent) → Decides ring front yeses e → Origin front yeses e
   origin front yeses e (head-asked g) = tt

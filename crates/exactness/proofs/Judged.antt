@@ -17,6 +17,7 @@ use Rattle.stream.specs.Events.{closed, refused}
 use Rattle.stream.specs.Head.{endsHead, isWholeHead}
 use Rattle.stream.specs.Limits.{headLimit, lineLimit}
 use Rattle.stream.specs.Lines.{crlf, endsWith}
+use Rattle.stream.specs.Places.{dataEndPlace, trailerPlace}
 use Rattle.stream.specs.Ring.{Ring}
 use Rattle.stream.specs.Stream.{Context, nextLine, isWhole, announced, showOf, judgeDataEnd, judgeTrailer, judge}
 use Rattle.stream.specs.Trailer.{endsTrailer, isWholeTrailer, isTrailer}
@@ -28,6 +29,7 @@ use Rattle.exactness.specs.Telling.{body-closed, rule-broken}
 use Rattle.exactness.proofs.Faults.{faultless-trailer}
 use Rattle.exactness.proofs.Forward.{pastOf, contextOf}
 use Rattle.exactness.proofs.Reached.{Reached, at-head, at-first, at-line, at-end, at-next, SaysDue, head-due, first-due, next-due}
+use Rattle.exactness.proofs.WentWrong.{data-end-wrong, trailer-wrong}
 use Rattle.exactness.proofs.Wholes.{cut-whole, none-unended}
 
 pub onward-written : (w : Beginning) (b f : List ℕ) → written w ++ b ++ crlf ++ f ≡ written (onward w b f)
@@ -76,9 +78,9 @@ module _ (ring : Ring) where
 
       by : (t : Bool) → same f crlf ≡ t
           → SaysDue ring (written w ++ b ++ f) (questions w)
-          (elim t [ true ↦ go (nextLine (showOf ring (headIn w)) (pastOf w) b) | false ↦ stop (refused 6) ])
+          (elim t [ true ↦ go (nextLine (showOf ring (headIn w)) (pastOf w) b) | false ↦ stop (refused 6 (dataEndPlace f)) ])
       by true h = rw (same-equal f crlf h) (at-next g a)
-      by false h = rule-broken (data-end-refused g a l (other h))
+      by false h = rule-broken (data-end-refused g a l (other h) (data-end-wrong f))
 
   trailer-due : (w : Beginning) (f : List ℕ) → Good ring w → announces w ≡ 0 → isWholeTrailer f ≡ true → NoneBelow isWholeTrailer f (length f)
       → SaysDue ring (written w ++ f) (questions w) (judgeTrailer (length (body w)) f)
@@ -86,9 +88,9 @@ module _ (ring : Ring) where
   trailer-due w f g z t n = by (isTrailer f) refl
     where
       by : (x : Bool) → isTrailer f ≡ x
-          → SaysDue ring (written w ++ f) (questions w) (elim x [ true ↦ stop (closed (length (body w))) | false ↦ stop (refused 6) ])
+          → SaysDue ring (written w ++ f) (questions w) (elim x [ true ↦ stop (closed (length (body w))) | false ↦ stop (refused 6 (trailerPlace f)) ])
       by true h = body-closed g z (faultless-trailer f n h)
-      by false h = rule-broken (trailer-refused g z (cut-whole endsTrailer headLimit f refl (omega arith) t n) h)
+      by false h = rule-broken (trailer-refused g z (cut-whole endsTrailer headLimit f refl (omega arith) t n) h (trailer-wrong f))
 
   -- after a line, by the size that it announces
   line-due : (w : Beginning) (f : List ℕ) → Good ring w → isWhole (contextOf ring w) f ≡ true → NoneBelow (isWhole (contextOf ring w)) f (length f)

@@ -3,6 +3,7 @@ pub mod Wholes
 pub mod Faults
 pub mod Steps
 pub mod Forward
+pub mod WentWrong
 pub mod Reached
 pub mod Judged
 pub mod Backward

@@ -10,9 +10,11 @@ use Rattle.sections.specs.Reading.{question, message, last, go, tell, ask, stop
 use Rattle.sections.proofs.Cuts.{NoneBelow}
 use Rattle.stream.specs.Blocks.{isWholeLine, chunkSize, lineFault}
 use Rattle.stream.specs.Bytes.{same}
+use Rattle.stream.specs.Events.{placeOf}
 use Rattle.stream.specs.Head.{endsHead, isWholeHead, headOf, blockSize, headFault}
 use Rattle.stream.specs.Limits.{headLimit, lineLimit}
 use Rattle.stream.specs.Lines.{crlf, endsWith}
+use Rattle.stream.specs.Places.{headPlace, linePlace}
 use Rattle.stream.specs.Ring.{Ring}
 use Rattle.stream.specs.Stream.{Context, head, firstLine, dataEnd, nextLine, Says, unlessBroken, announced, showOf, headQuestion, acceptHead, judgeHead, judgeFirstLine, bodyWith, blockQuestion, acceptBlock, judgeNextLine}
 use Rattle.exactness.specs.Beginning.{Beginning, opening, onward, written, headIn, size, announces, blocks, body, hash, questions}
@@ -21,6 +23,7 @@ use Rattle.exactness.specs.Refusals.{Whole, Refuses, head-refused, first
 use Rattle.exactness.specs.Telling.{headAsks, headTells, blockAsks, Decides, head-asked, head-told, block-asked, block-told, rule-broken}
 use Rattle.exactness.proofs.Faults.{faultless-head, faultless-first, faultless-next}
 use Rattle.exactness.proofs.Forward.{pastOf, contextOf, offset-is}
+use Rattle.exactness.proofs.WentWrong.{head-wrong, line-wrong}
 use Rattle.exactness.proofs.Wholes.{cut-whole}
 
 -- the reading stands in a context, after the bytes `front` and so many yeses
@@ -43,17 +46,17 @@ module _ (ring : Ring) where
   SaysDue front yeses (ask q (final l)) = ⊥
   SaysDue front yeses (stop l) = Decides ring front yeses (last l)
 
-  unless-due : (front : List ℕ) (yeses n : ℕ) (says : Says) → (n ≡ 0 → SaysDue front yeses says)
-      → ((k : ℕ) → n ≡ suc k → Refuses ring front yeses (suc k)) → SaysDue front yeses (unlessBroken n says)
-  unless-due front yeses zero says h r = h refl
-  unless-due front yeses (suc n) says h r = rule-broken (r n refl)
+  unless-due : (front : List ℕ) (yeses n place : ℕ) (says : Says) → (n ≡ 0 → SaysDue front yeses says)
+      → ((k : ℕ) → n ≡ suc k → Refuses ring front yeses (suc k) (placeOf (suc k) place)) → SaysDue front yeses (unlessBroken n place says)
+  unless-due front yeses zero place says h r = h refl
+  unless-due front yeses (suc n) place says h r = rule-broken (r n refl)
 
   pub head-due : (f : List ℕ) → isWholeHead f ≡ true → NoneBelow isWholeHead f (length f) → SaysDue f 0 (judgeHead ring f)
   unfolding judgeHead acceptHead headQuestion headAsks headTells isWholeHead endsHead endsWith same headFault
   head-due f t n =
-      unless-due f 0 (headFault ring f) (acceptHead ring (headOf f))
+      unless-due f 0 (headFault ring f) (headPlace f) (acceptHead ring (headOf f))
       (λ e. let g = faultless-head ring f n e in (head-asked g, head-told g, at-first g))
-      (λ k e. head-refused (cut-whole endsHead headLimit f refl (omega arith) t n) e)
+      (λ k e. head-refused (cut-whole endsHead headLimit f refl (omega arith) t n) e (head-wrong f (suc k)))
 
   -- a line that is cut off
   line-whole : (f : List ℕ) → isWholeLine f ≡ true → NoneBelow isWholeLine f (length f) → Whole (endsWith crlf) lineLimit f
@@ -64,9 +67,9 @@ module _ (ring : Ring) where
       → SaysDue (h ++ f) 1 (judgeFirstLine (showOf ring (headOf h)) f)
   unfolding judgeFirstLine showOf written blocks headIn announces body hash lineFault
   first-due h f g t n =
-      unless-due (h ++ f) 1 (lineFault (blockSize (headOf h)) false true 0 f) _
+      unless-due (h ++ f) 1 (lineFault (blockSize (headOf h)) false true 0 f) (linePlace f) _
       (λ e. at-line {w = opening h f} (opens g (faultless-first (blockSize (headOf h)) f n e)) refl)
-      (λ k e. first-line-refused g (line-whole f t n) e)
+      (λ k e. first-line-refused g (line-whole f t n) e (line-wrong f (suc k)))
 
   -- the bytes of the body up to and with a block, counted both ways
   pub body-with : (w : Beginning) (b : List ℕ) → Good ring w → Announced w b → bodyWith (showOf ring (headIn w)) (pastOf w) b ≡ length (body w ++ b)
@@ -78,8 +81,8 @@ module _ (ring : Ring) where
   unfolding judgeNextLine acceptBlock blockQuestion showOf blockAsks headIn announces blocks body hash lineFault
   next-due w b f g a t n =
       let k = body-with w b g a in
-      unless-due (written (onward w b f)) (questions w) _ _
+      unless-due (written (onward w b f)) (questions w) _ _ _
       (λ e.
       let good : Good ring (onward w b f) = goes-on g a (rw k at (faultless-next (size w) (bodyWith (showOf ring (headIn w)) (pastOf w) b) b f n e)) in
       (block-asked good, block-told good, at-line good (ap (λ (m : ℕ). announced (showOf ring (headIn w)) (pastOf (onward w b f)) m (chunkSize f)) k)))
-      (λ m e. next-line-refused g a (line-whole f t n) (rw k at e))
+      (λ m e. next-line-refused g a (line-whole f t n) (rw k at e) (line-wrong f (suc m)))

@@ -39,7 +39,7 @@ module _ (ring : Ring) where
       }
   decides-stands front rest yeses others told e (body-closed {w = w} {t = t} g z k) =
       record { before = logOf ring w; after = []; joined = sym (reading-closed ring w t rest others told g z k) }
-  decides-stands front rest yeses others told e (rule-broken r) = refuses-stands ring front rest yeses others told _ r
+  decides-stands front rest yeses others told e (rule-broken r) = refuses-stands ring front rest yeses others told _ _ r
 
   due-stands : (S : List ℕ) (answers : List Bool) (told : Bool) (at : ℕ) (e : StreamEvent) → Due ring S answers at e
       → Stands (at, e) (plainReading ring S answers told)
@@ -49,7 +49,7 @@ module _ (ring : Ring) where
   -- where a question is decided, a no gives refusal 10
   abbrev Denies : List ℕ → ℕ → StreamEvent → Type 0
   Denies front yeses (question q) = (rest : List ℕ) (others : List Bool) (told : Bool)
-      → Stands (length front, last (refused 10)) (plainReading ring (front ++ rest) (replicate yeses true ++ (false ∷ others)) told)
+      → Stands (length front, last (refused 10 0)) (plainReading ring (front ++ rest) (replicate yeses true ++ (false ∷ others)) told)
   Denies front yeses (message e) = Unit {0}
   Denies front yeses (last l) = Unit {0}
 

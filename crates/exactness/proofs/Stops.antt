@@ -25,15 +25,15 @@ module _ (ring : Ring) where
   Telling = Log Question Release LastWord
 
   -- a section that ends the reading
-  pub stop-step : (c : Context) (at : ℕ) (f r : List ℕ) (answers : List Bool) (told : Bool) (n : ℕ) → 0 < length f → isWhole c f ≡ true
-      → NoneBelow (isWhole c) f (length f) → judge ring c f ≡ stop (refused n)
-      → readingAt (rules ring) c at (f ++ r) answers told ≡ (at + length f, last (refused n)) ∷ []
-  stop-step c at f r answers told n s t k e =
+  pub stop-step : (c : Context) (at : ℕ) (f r : List ℕ) (answers : List Bool) (told : Bool) (n place : ℕ) → 0 < length f → isWhole c f ≡ true
+      → NoneBelow (isWhole c) f (length f) → judge ring c f ≡ stop (refused n place)
+      → readingAt (rules ring) c at (f ++ r) answers told ≡ (at + length f, last (refused n place)) ∷ []
+  stop-step c at f r answers told n place s t k e =
       one-section ring c at f r answers told s t k ∙ ap (λ (v : Says). judged (rules ring) v (at + length f) answers (onRest ring (at + length f) r told)) e
 
   -- the bytes run out within a section, and the end is told
   pub out-step : (c : Context) (at : ℕ) (l : List ℕ) (answers : List Bool) → NoneBelow (isWhole c) l (suc (length l))
-      → readingAt (rules ring) c at l answers true ≡ (at + length l, last (refused 11)) ∷ []
+      → readingAt (rules ring) c at l answers true ≡ (at + length l, last (refused 11 0)) ∷ []
   unfolding rules
   out-step c at l answers n =
       section-read (rules ring) c at l answers true

@@ -37,19 +37,19 @@ shorter-none n l s m x y =
 module _ (ring : Ring) where
   -- in a block
   block-out : (w : Beginning) (b : List ℕ) (others : List Bool) → length b < announces w
-      → readingAt (rules ring) (contextOf ring w) (length (written w)) b others true ≡ (length (written w) + length b, last (refused 11)) ∷ []
+      → readingAt (rules ring) (contextOf ring w) (length (written w)) b others true ≡ (length (written w) + length b, last (refused 11 0)) ∷ []
   unfolding isWhole
   block-out w b others s = by (announces w) s
     where
       by : (m : ℕ) → length b < m
           → readingAt (rules ring) (announced (showOf ring (headIn w)) (pastOf w) (length (body w)) m) (length (written w)) b others true
-          ≡ (length (written w) + length b, last (refused 11)) ∷ []
+          ≡ (length (written w) + length b, last (refused 11 0)) ∷ []
       by zero s = absurd (omega arith)
       by (suc m) s =
           out-step ring (blockData (showOf ring (headIn w)) (pastOf w) (suc m)) (length (written w)) b others (shorter-none (suc m) b s)
 
   pub unfinished-stands : (S : List ℕ) (yeses : ℕ) (others : List Bool) → Unfinished ring S yeses
-      → Stands (length S, last (refused 11)) (plainReading ring S (replicate yeses true ++ others) true)
+      → Stands (length S, last (refused 11 0)) (plainReading ring S (replicate yeses true ++ others) true)
   unfolding plainReading reading isWhole isWholeHead isWholeLine isWholeTrailer
   unfinished-stands S yeses others (in-head {h = h} u) =
       stands-last ring _ [] (length h) (0 + length h) (out-step ring head 0 h others (unended-none endsHead headLimit h u)) (omega arith)

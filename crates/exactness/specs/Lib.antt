@@ -1,5 +1,6 @@
 pub mod Beginning
 pub mod Good
+pub mod WentWrong
 pub mod Refusals
 pub mod Telling
 pub mod Releases

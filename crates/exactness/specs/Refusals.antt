@@ -6,7 +6,9 @@ use mathlib.Core.Path.{_≡_}
 use Prim.Native.Nat.{ℕ, suc, _≤_, _<_}
 use lib.Dec.{eqb}
 use lib.ListN.{length, take}
-use Rattle.stream.specs.Blocks.{lineRules}
+use Rattle.octets.specs.Viable.{LongestViable}
+use Rattle.stream.specs.Blocks.{isChunkLine, lineRules}
+use Rattle.stream.specs.GoodText.{isGoodHead, isGoodDataEnd, isGoodTrailer}
 use Rattle.stream.specs.Head.{endsHead, headOf, blockSize, textRules, trustRules}
 use Rattle.stream.specs.Limits.{headLimit, lineLimit}
 use Rattle.stream.specs.Lines.{crlf, endsWith}
@@ -15,6 +17,7 @@ use Rattle.stream.specs.Rule.{firstBroken}
 use Rattle.stream.specs.Trailer.{endsTrailer, isTrailer}
 use Rattle.exactness.specs.Beginning.{Beginning, onward, written, size, announces, body, questions}
 use Rattle.exactness.specs.Good.{EndsFirst, GoodHead, Announced, Good}
+use Rattle.exactness.specs.WentWrong.{WentWrong}
 
 -- "judged at its CR LF, or refused with 6 when 128 bytes have come without it": l ends within the limit, and not before; or it
 -- has come to the limit, and no beginning of it has the end
@@ -27,24 +30,27 @@ pub record Unended (ends : List ℕ → Bool) (limit : ℕ) (l : List ℕ) : Typ
   pub under : length l < limit
   pub none : (n : ℕ) → n ≤ length l → ends (take n l) ≡ false
 
--- `Refuses ring front yeses n`: the last byte of `front` breaks a rule, with the refusal n, where all before it is good and
--- `yeses` questions were answered with yes. Of several broken rules the first in the paper's order gives the number.
-pub data Refuses (ring : Ring) : List ℕ → ℕ → ℕ → Type 0 where
+-- `Refuses ring front yeses n place`: the last byte of `front` breaks a rule, with the refusal n, where all before it is good and
+-- `yeses` questions were answered with yes. Of several broken rules the first in the paper's order gives the number; the place is
+-- counted from the first byte of the head, line, data end or trailer.
+pub data Refuses (ring : Ring) : List ℕ → ℕ → ℕ → ℕ → Type 0 where
   -- 3, 4, 5 and 12
-  head-refused : {h : List ℕ} {n : ℕ} → Whole endsHead headLimit h
-      → firstBroken (textRules h (headOf h) ++ trustRules ring (headOf h)) ≡ suc n → Refuses ring h 0 (suc n)
+  head-refused : {h : List ℕ} {n place : ℕ} → Whole endsHead headLimit h
+      → firstBroken (textRules h (headOf h) ++ trustRules ring (headOf h)) ≡ suc n
+      → WentWrong endsHead isGoodHead h (suc n) place → Refuses ring h 0 (suc n) place
   -- 6, 8, 7 and 9: on the first line no signature is due, and nothing came before
-  first-line-refused : {h l : List ℕ} {n : ℕ} → GoodHead ring h → Whole (endsWith crlf) lineLimit l
-      → firstBroken (lineRules (blockSize (headOf h)) false true 0 l) ≡ suc n → Refuses ring (h ++ l) 1 (suc n)
-  next-line-refused : {w : Beginning} {b l : List ℕ} {n : ℕ} → Good ring w → Announced w b → Whole (endsWith crlf) lineLimit l
+  first-line-refused : {h l : List ℕ} {n place : ℕ} → GoodHead ring h → Whole (endsWith crlf) lineLimit l
+      → firstBroken (lineRules (blockSize (headOf h)) false true 0 l) ≡ suc n
+      → WentWrong (endsWith crlf) isChunkLine l (suc n) place → Refuses ring (h ++ l) 1 (suc n) place
+  next-line-refused : {w : Beginning} {b l : List ℕ} {n place : ℕ} → Good ring w → Announced w b → Whole (endsWith crlf) lineLimit l
       → firstBroken (lineRules (size w) true (eqb (length b) (size w)) (length (body w ++ b)) l) ≡ suc n
-      → Refuses ring (written (onward w b l)) (questions w) (suc n)
+      → WentWrong (endsWith crlf) isChunkLine l (suc n) place → Refuses ring (written (onward w b l)) (questions w) (suc n) place
   -- "data end .. wrong": two bytes that are not CR LF
-  data-end-refused : {w : Beginning} {b e : List ℕ} → Good ring w → Announced w b → length e ≡ 2 → (e ≡ crlf → ⊥)
-      → Refuses ring (written w ++ b ++ e) (questions w) 6
+  data-end-refused : {w : Beginning} {b e : List ℕ} {place : ℕ} → Good ring w → Announced w b → length e ≡ 2 → (e ≡ crlf → ⊥)
+      → LongestViable isGoodDataEnd e place → Refuses ring (written w ++ b ++ e) (questions w) 6 place
   -- "trailer text wrong or too long"
-  trailer-refused : {w : Beginning} {t : List ℕ} → Good ring w → announces w ≡ 0 → Whole endsTrailer headLimit t → isTrailer t ≡ false
-      → Refuses ring (written w ++ t) (questions w) 6
+  trailer-refused : {w : Beginning} {t : List ℕ} {place : ℕ} → Good ring w → announces w ≡ 0 → Whole endsTrailer headLimit t → isTrailer t ≡ false
+      → WentWrong endsTrailer isGoodTrailer t 6 place → Refuses ring (written w ++ t) (questions w) 6 place
 
 -- `Unfinished ring S yeses`: the stream S breaks off, after so many yeses, within one of its parts or between two of them.
 pub data Unfinished (ring : Ring) : List ℕ → ℕ → Type 0 where

@@ -50,7 +50,7 @@ pub data Decides (ring : Ring) : List ℕ → ℕ → StreamEvent → Type 0 whe
       → Decides ring (written (onward w b l)) (suc (questions w)) (message (block (offset w) b))
   body-closed : {w : Beginning} {t : List ℕ} → Good ring w → announces w ≡ 0 → GoodTrailer t
       → Decides ring (written w ++ t) (questions w) (last (closed (length (body w))))
-  rule-broken : {front : List ℕ} {yeses n : ℕ} → Refuses ring front yeses n → Decides ring front yeses (last (refused n))
+  rule-broken : {front : List ℕ} {yeses n place : ℕ} → Refuses ring front yeses n place → Decides ring front yeses (last (refused n place))
 
 -- The event e is due at the place `at` of the stream S: a beginning of S of that length decides it, and the answers begin
 -- with all the yeses that it needs.
@@ -69,9 +69,9 @@ pub record Due (ring : Ring) (S : List ℕ) (answers : List Bool) (at : ℕ) (e 
 pub data Expected (ring : Ring) (S : List ℕ) (answers : List Bool) (told : Bool) : ℕ → StreamEvent → Type 0 where
   on-time : {at : ℕ} {e : StreamEvent} → Due ring S answers at e → Expected ring S answers told at e
   denied : {at : ℕ} {q : Question} (d : Due ring S answers at (question q)) (others : List Bool) → d .others ≡ false ∷ others
-      → Expected ring S answers told at (last (refused 10))
+      → Expected ring S answers told at (last (refused 10 0))
   broken-off : (yeses : ℕ) (others : List Bool) → replicate yeses true ++ others ≡ answers → Unfinished ring S yeses → told ≡ true
-      → Expected ring S answers told (length S) (last (refused 11))
+      → Expected ring S answers told (length S) (last (refused 11 0))
 
 -- x stands in the list
 pub record Stands {A : Type 0} (x : A) (l : List A) : Type 0 where

@@ -20,10 +20,10 @@ fn one_key(text: &[u8], first: u64, last: u64) -> KeyRing
 fn number_of(answer: HeadAnswer) -> u8
     ensures { λ r. ⌜ r ≡ numberOf answer ⌝ }
 {
-    let HeadAnswer::Refused(number) = answer else {
+    let HeadAnswer::Refused(why) = answer else {
         return 0;
     };
-    number
+    why.number
 }
 
 // The number that refuses the head. Or 0, and the signing string from the front of the buffer. One key is trusted, from the first to

@@ -5,10 +5,12 @@ use Prim.Native.Nat.{ℕ, _+_}
 use lib.Dec.{leb}
 use lib.ListN.{length, take, set}
 use Rattle.octets.specs.Choice.{pick}
+use Rattle.refusals.specs.Refusals.{placed}
 use Rattle.signing.specs.Judgement.{Judgement, headJudged}
 use Rattle.signing.specs.declared.judging.HeadAnswer.{HeadAnswer}
 use Rattle.signing.specs.declared.judging.HeadAnswer.the-variants as A
 use Rattle.stream.specs.Head.{isWholeHead}
+use Rattle.stream.specs.Limits.{headLimit}
 use Rattle.stream.specs.Ring.{Ring}
 use Rattle.state.specs.Configuration.{Configuration, configuration, inPhase, readerAt, Next, on, stop, refuse}
 use Rattle.state.specs.declared.phase.Phase.the-variants as P
@@ -45,5 +47,5 @@ headGathered ring d n =
 unfoldable pub pushHead : Ring → Configuration → ℕ → ℕ → Next
 pushHead ring d have x =
     pick (leb (length (d .head)) have)
-    (refuse 3 0 d)
+    (refuse (placed 3 headLimit) 0 d)
     (headGathered ring (configuration (inPhase (d .reader) (P.Head (have + 1))) (set (d .head) have x) (d .block) (d .question)) (have + 1))

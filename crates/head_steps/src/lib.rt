@@ -1,6 +1,7 @@
 // What one byte of the head does: it is gathered from the front of the head buffer, and the head that is whole with it is judged.
 use blocks::BlockNumber;
 use head::HEAD_LIMIT;
+use refusals::Refusal;
 use ring::KeyRing;
 use signing::HeadAnswer;
 use signing::Judged;
@@ -45,9 +46,9 @@ fn answer_judged(r: Reader, n: usize, judged: Judged) -> Stepped
     let id = judged.id;
     let answer = judged.answer;
     match answer {
-        HeadAnswer::Refused(k) => state::said(
-            Word::Refused(k),
-            state::in_phase(r, Phase::Refused(k)),
+        HeadAnswer::Refused(why) => state::said(
+            Word::Refused(why),
+            state::in_phase(r, Phase::Refused(why.number)),
         ),
         HeadAnswer::Asks {
             status,
@@ -98,7 +99,11 @@ pub fn push_head(
     ensures { λ s. ⌜ ((b : List ℕ) → nextOf s (now (head .exit)) b (now (question .exit)) ≡ pushHead (ringOf ring) (configuration r (now (head .entry)) b (now (question .entry))) have x) ⌝ }
 {
     if head.len() <= have {
-        return state::said(Word::Refused(3), state::in_phase(r, Phase::Refused(3)));
+        let why = Refusal {
+            number: 3,
+            at: HEAD_LIMIT,
+        };
+        return state::said(Word::Refused(why), state::in_phase(r, Phase::Refused(3)));
     }
     head[have] = x;
     let next = have + 1;

@@ -4,6 +4,7 @@ use crate::lines::say;
 use crate::lines::say_count;
 use crate::lines::say_number;
 use number::Number;
+use refusals::Refusal;
 use ring::KeyRing;
 use signing::HeadAnswer;
 ghost use Prim.Native.Nat.{_+_, _<_, _≤_};
@@ -66,8 +67,8 @@ fn judge_case(label: &[u8], head: &[u8], ring: KeyRing, question: &mut [u8; 8192
     let answer = judged.answer;
     say(label);
     match answer {
-        HeadAnswer::Refused(number) => {
-            say_number(b" refused ", wide(number));
+        HeadAnswer::Refused(why) => {
+            say_refused(why);
         }
         HeadAnswer::Asks {
             status,
@@ -85,6 +86,14 @@ fn judge_case(label: &[u8], head: &[u8], ring: KeyRing, question: &mut [u8; 8192
         }
     }
     say(b"\n");
+}
+
+// With 3 goes the place where the text went wrong.
+fn say_refused(why: Refusal) {
+    say_number(b" refused ", wide(why.number));
+    if why.number == 3 {
+        say_count(b" at ", why.at);
+    }
 }
 
 fn say_part(word: &[u8], bytes: &[u8; 64], length: usize) {

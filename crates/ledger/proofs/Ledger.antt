@@ -56,7 +56,7 @@ told (question q) = 1 ∷ length (q .message) ∷ q .keyNumber ∷ []
 told (message (headAccepted status signed)) = 2 ∷ status ∷ length signed ∷ []
 told (message (block offset bytes)) = 3 ∷ offset ∷ length bytes ∷ []
 told (last (closed total)) = 4 ∷ total ∷ []
-told (last (refused n)) = 5 ∷ n ∷ []
+told (last (refused n at)) = 5 ∷ n ∷ []
 
 -- each event after its place
 abbrev placed : Log Question Release LastWord → List ℕ

@@ -46,7 +46,7 @@ kept-first-gathered d n = kept-pick d (isWholeLine (lineOf d n)) _ _ (kept-first
 
 pub kept-first-line : (d : Configuration) (have x : ℕ) → Kept d (pushFirstLine d have x)
 unfolding pushFirstLine
-kept-first-line d have x = kept-pick d (leb 128 have) _ _ (kept-refuse 6 0 d) (kept-after d _ _ (kept-on d _ refl refl refl) (kept-first-gathered _ (have + 1)))
+kept-first-line d have x = kept-pick d (leb 128 have) _ _ (kept-refuse _ 0 d) (kept-after d _ _ (kept-on d _ refl refl refl) (kept-first-gathered _ (have + 1)))
 
 kept-asked : (d : Configuration) (size next : ℕ) (signature : List ℕ) → Kept d (asked d size next signature)
 unfolding asked messageNow
@@ -63,4 +63,4 @@ kept-next-gathered d n size = kept-pick d (isWholeLine (lineOf d n)) _ _ (kept-n
 
 pub kept-next-line : (d : Configuration) (have size x : ℕ) → Kept d (pushNextLine d have size x)
 unfolding pushNextLine
-kept-next-line d have size x = kept-pick d (leb 128 have) _ _ (kept-refuse 6 size d) (kept-after d _ _ (kept-on d _ refl refl refl) (kept-next-gathered _ (have + 1) size))
+kept-next-line d have size x = kept-pick d (leb 128 have) _ _ (kept-refuse _ size d) (kept-after d _ _ (kept-on d _ refl refl refl) (kept-next-gathered _ (have + 1) size))

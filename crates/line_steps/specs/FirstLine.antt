@@ -10,6 +10,8 @@ use Rattle.octets.specs.Choice.{pick}
 use Rattle.chunk.specs.Judging.{lineJudged}
 use Rattle.chunk.specs.declared.judging.LineAnswer.{LineAnswer}
 use Rattle.chunk.specs.declared.judging.LineAnswer.the-variants as A
+use Rattle.refusals.specs.Refusals.{placed}
+use Rattle.refusals.specs.declared.Refusal.{Refusal}
 use Rattle.stream.specs.Blocks.{isWholeLine}
 use Rattle.stream.specs.Limits.{lineLimit}
 use Rattle.state.specs.Configuration.{Configuration, moved, lined, Next, on, refuse}
@@ -19,6 +21,10 @@ use Rattle.state.specs.declared.phase.Phase.the-variants as P
 -- a line that announces n bytes: a block, or, "size 0 ends the body", the trailer of a body of `total` bytes
 abbrev pub announced : ℕ → ℕ → Phase
 announced n total = pick (eqb n 0) (P.Trailer 0 total) (P.Data 0 n)
+
+-- a line that has no end within the limit
+abbrev pub tooLong : Refusal
+tooLong = placed 6 lineLimit
 
 -- the first n bytes of the line
 abbrev pub lineOf : Configuration → ℕ → List ℕ
@@ -39,5 +45,5 @@ firstGathered d n =
 unfoldable pub pushFirstLine : Configuration → ℕ → ℕ → Next
 pushFirstLine d have x =
     pick (leb lineLimit have)
-    (refuse 6 0 d)
+    (refuse tooLong 0 d)
     (firstGathered (lined d (P.FirstLine (have + 1)) (set (d .reader .line) have x)) (have + 1))

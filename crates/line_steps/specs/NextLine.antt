@@ -20,7 +20,7 @@ use Rattle.state.specs.Configuration.{Configuration, configuration, withHash, l
 use Rattle.state.specs.declared.phase.Phase.the-variants as P
 use Rattle.state.specs.declared.reader.Reader.{Reader}
 use Rattle.state.specs.declared.word.Word.the-variants as W
-use Rattle.line_steps.specs.FirstLine.{lineOf}
+use Rattle.line_steps.specs.FirstLine.{tooLong, lineOf}
 
 -- where the block under way starts
 abbrev pub offsetNow : Reader → ByteOffset
@@ -62,5 +62,5 @@ nextGathered d n size =
 unfoldable pub pushNextLine : Configuration → ℕ → ℕ → ℕ → Next
 pushNextLine d have size x =
     pick (leb lineLimit have)
-    (refuse 6 size d)
+    (refuse tooLong size d)
     (nextGathered (lined d (P.NextLine (have + 1) size) (set (d .reader .line) have x)) (have + 1) size)

@@ -1,5 +1,6 @@
 // The chunk lines, gathered in the state: the first one, and what all lines share.
 use chunk::LineAnswer;
+use refusals::Refusal;
 use state::Phase;
 use state::Reader;
 use state::Stepped;
@@ -12,10 +13,20 @@ ghost use mathlib.Core.Path.{_≡_};
 ghost use Prim.Native.Nat.{ℕ, _≤_};
 ghost use Rattle.stream.specs.Blocks.{isWholeLine};
 ghost use Rattle.state.specs.Configuration.{configuration, nextOf};
-ghost use Rattle.line_steps.specs.FirstLine.{announced as announcedPhase, firstAnswered, firstGathered, pushFirstLine};
+ghost use Rattle.line_steps.specs.FirstLine.{announced as announcedPhase, firstAnswered, firstGathered, pushFirstLine, tooLong};
 
 // A line without its end is refused at this many bytes.
 pub(crate) const LINE_LIMIT: usize = 128;
+
+// The refusal of a line that has no end within the limit.
+pub(crate) fn too_long() -> Refusal
+    ensures { λ r. ⌜ r ≡ tooLong ⌝ }
+{
+    Refusal {
+        number: 6,
+        at: LINE_LIMIT,
+    }
+}
 
 pub(crate) fn is_whole_line(line: &[u8]) -> bool
     ensures { λ r. ⌜ r ≡ isWholeLine (now (line .entry)) ⌝ }
@@ -38,7 +49,10 @@ fn answer_first(r: Reader, answer: LineAnswer) -> Stepped
     ensures { λ s. ⌜ ((h b q : List ℕ) → nextOf s h b q ≡ firstAnswered (configuration r h b q) answer) ⌝ }
 {
     match answer {
-        LineAnswer::Refused(n) => said(Word::Refused(n), in_phase(r, Phase::Refused(n))),
+        LineAnswer::Refused(why) => said(
+            Word::Refused(why),
+            in_phase(r, Phase::Refused(why.number)),
+        ),
         LineAnswer::Good { size } => said(Word::More, in_phase(r, announced(size as usize, 0))),
     }
 }
@@ -64,7 +78,8 @@ pub fn push_first_line(r: Reader, have: usize, x: u8) -> Stepped
     ensures { λ s. ⌜ ((h b q : List ℕ) → nextOf s h b q ≡ pushFirstLine (configuration r h b q) have x) ⌝ }
 {
     if LINE_LIMIT <= have {
-        return said(Word::Refused(6), in_phase(r, Phase::Refused(6)));
+        let why = too_long();
+        return said(Word::Refused(why), in_phase(r, Phase::Refused(6)));
     }
     let mut line = r.line;
     line[have] = x;

@@ -1,6 +1,7 @@
 // The chunk line after a block: it carries the block's signature, and a good one leads to the question about the block.
 use crate::first_line::LINE_LIMIT;
 use crate::first_line::is_whole_line;
+use crate::first_line::too_long;
 use chunk::Line;
 use chunk::LineAnswer;
 use state::Phase;
@@ -82,7 +83,7 @@ fn answer_next(r: Reader, block: &mut [u8], question: &mut [u8], size: usize, li
     let signature = line.signature;
     let answer = line.answer;
     match answer {
-        LineAnswer::Refused(n) => refused(r, block, size, n),
+        LineAnswer::Refused(why) => refused(r, block, size, why),
         LineAnswer::Good { size: next } => ask(r, block, question, size, next as usize, signature),
     }
 }
@@ -112,7 +113,8 @@ pub fn push_next_line(
     ensures { λ s. ⌜ ((h : List ℕ) → nextOf s h (now (block .exit)) (now (question .exit)) ≡ pushNextLine (configuration r h (now (block .entry)) (now (question .entry))) have size x) ⌝ }
 {
     if LINE_LIMIT <= have {
-        return refused(r, block, size, 6);
+        let why = too_long();
+        return refused(r, block, size, why);
     }
     let mut line = r.line;
     line[have] = x;

@@ -1,91 +1,90 @@
--- The two forms of a number: what the readers answer where the cap does not matter, how a reader comes to its answer, and
--- the bounds of the values. Assumes nothing.
+-- What a caller learns from each answer of a reader, where the cap on the digits does not matter. Assumes nothing.
 use mathlib.Core.Path.{_≡_, refl, sym, _∙_}
-use mathlib.Core.Bool.{Bool, true, false, _&&_, _||_}
+use mathlib.Core.Bool.{Bool, true, false}
 use mathlib.Core.List.{List}
-use Prim.Native.Nat.{ℕ, _^_, _≤_, _<_, min}
-use native.Mathlib.Nat.{pow-le-pow-right, le-trans, min-eq-left}
+use Prim.Native.Nat.{ℕ, _≤_, min}
+use native.Mathlib.Nat.{min-eq-left}
 use native.Mathlib.Omega.{arith}
-use borrow.Author.Tests.{leb-true}
-use lib.Dec.{eqb, ltb, lit<}
-use lib.ListN.{length, getD}
 use Rattle.octets.specs.Choice.{pick}
-use Rattle.stream.specs.Bytes.{isDigit, isHex, between, all}
-use Rattle.stream.specs.Numbers.{decimalDigit, decimalValue, hexDigit, hexValue, isDecimal, isHexNumber}
-use Rattle.number.specs.Digits.{digitsRead}
-use Rattle.number.specs.Reading.{decimalRead, hexRead}
+use Rattle.octets.specs.Viable.{LongestViable}
+use Rattle.stream.specs.GoodText.{isCount}
+use Rattle.stream.specs.Numbers.{decimalValue, hexValue, isDecimal, isHexNumber}
+use Rattle.number.specs.Reading.{decimalPlace, hexPlace, countPlace, decimalRead, hexRead, countRead}
+use Rattle.number.specs.declared.Number.{Number}
 use Rattle.number.specs.declared.Number.the-variants.{Value, Bad}
-use Rattle.number.proofs.Values.{form-is, value-bound}
-use Rattle.number.proofs.Classes.{both, inside, decimal-class, decimal-digit, hex-class, hex-digit}
+use Rattle.number.proofs.Places.{decimal-longest, hex-longest, count-longest}
 
--- ---- the readers
+-- ---- an answer of any of the readers
 
--- within the cap a reader's answer is the form's own
-pub decimal-read : (most : ℕ) (l : List ℕ) → most ≤ 19 → decimalRead most l ≡ pick (isDecimal most l) (Value (decimalValue l)) Bad
-unfolding decimalRead
-decimal-read most l h = rw (min-eq-left {n = most} {m = 19} h)
+module _ (good : Bool) (n at : ℕ) where
+  found : (v : ℕ) → pick good (Value n) (Bad at) ≡ Value v → (good ≡ true) × (v ≡ n)
+  found v e = by good e
+    where
+      by : (t : Bool) → pick t (Value n) (Bad at) ≡ Value v → (t ≡ true) × (v ≡ n)
+      by true e = (refl, cc)
+      by false e = let z : _≡_ {A = ℕ} 0 1 = cc in absurd (omega arith)
 
-pub hex-read : (most : ℕ) (l : List ℕ) → most ≤ 16 → hexRead most l ≡ pick (isHexNumber most l) (Value (hexValue l)) Bad
-unfolding hexRead
-hex-read most l h = rw (min-eq-left {n = most} {m = 16} h)
+  missed : (p : ℕ) → pick good (Value n) (Bad at) ≡ Bad p → (good ≡ false) × (at ≡ p)
+  missed p e = by good e
+    where
+      by : (t : Bool) → pick t (Value n) (Bad at) ≡ Bad p → (t ≡ false) × (at ≡ p)
+      by true e = let z : _≡_ {A = ℕ} 0 1 = cc in absurd (omega arith)
+      by false e = (refl, cc)
 
--- what a caller learns from each answer
-found : (t : Bool) (n v : ℕ) → pick t (Value n) Bad ≡ Value v → (t ≡ true) × (v ≡ n)
-found true n v e = (refl, cc)
-found false n v e = let z : _≡_ {A = ℕ} 0 1 = cc in absurd (omega arith)
+-- the place of a bad answer is the one that is known to be the longest beginning's
+placed : (good : List ℕ → Bool) (l : List ℕ) (n at : ℕ) → LongestViable good l at → {r : Number} → r ≡ pick (good l) (Value n) (Bad at) → (p : ℕ) → r ≡ Bad p → LongestViable good l p
+placed good l n at h a p e = let q : at ≡ p = missed (good l) n at p (sym a ∙ e) .1 in rw (← q) h
 
-missed : (t : Bool) (n : ℕ) → pick t (Value n) Bad ≡ Bad → t ≡ false
-missed true n e = let z : _≡_ {A = ℕ} 0 1 = cc in absurd (omega arith)
-missed false n e = refl
+-- ---- decimal
 
-pub decimal-found : (most : ℕ) (l : List ℕ) (v : ℕ) → most ≤ 19 → decimalRead most l ≡ Value v → (isDecimal most l ≡ true) × (v ≡ decimalValue l)
-decimal-found most l v h e = found (isDecimal most l) (decimalValue l) v (sym (decimal-read most l h) ∙ e)
+module _ (most : ℕ) (l : List ℕ) where
+  pub decimal-exactly : {r : Number} → r ≡ decimalRead most l → (p : ℕ) → 1 ≤ most → r ≡ Bad p → LongestViable (isDecimal (min most 19)) l p
+  unfolding decimalRead
+  decimal-exactly a p h e = placed (isDecimal (min most 19)) l (decimalValue l) (decimalPlace (min most 19) l) (decimal-longest (min most 19) l (omega arith)) a p e
 
-pub decimal-missed : (most : ℕ) (l : List ℕ) → most ≤ 19 → decimalRead most l ≡ Bad → isDecimal most l ≡ false
-decimal-missed most l h e = missed (isDecimal most l) (decimalValue l) (sym (decimal-read most l h) ∙ e)
+  module _ (h : most ≤ 19) where
+    decimal-read : decimalRead most l ≡ pick (isDecimal most l) (Value (decimalValue l)) (Bad (decimalPlace most l))
+    unfolding decimalRead
+    decimal-read = rw (min-eq-left {n = most} {m = 19} h)
 
-pub hex-found : (most : ℕ) (l : List ℕ) (v : ℕ) → most ≤ 16 → hexRead most l ≡ Value v → (isHexNumber most l ≡ true) × (v ≡ hexValue l)
-hex-found most l v h e = found (isHexNumber most l) (hexValue l) v (sym (hex-read most l h) ∙ e)
+    pub decimal-found : (v : ℕ) → decimalRead most l ≡ Value v → (isDecimal most l ≡ true) × (v ≡ decimalValue l)
+    decimal-found v e = found (isDecimal most l) (decimalValue l) (decimalPlace most l) v (sym decimal-read ∙ e)
 
-pub hex-missed : (most : ℕ) (l : List ℕ) → most ≤ 16 → hexRead most l ≡ Bad → isHexNumber most l ≡ false
-hex-missed most l h e = missed (isHexNumber most l) (hexValue l) (sym (hex-read most l h) ∙ e)
+    pub decimal-missed : (p : ℕ) → decimalRead most l ≡ Bad p → isDecimal most l ≡ false
+    decimal-missed p e = missed (isDecimal most l) (decimalValue l) (decimalPlace most l) p (sym decimal-read ∙ e) .0
 
--- as many digits as were counted write a number of 64 bits
-pub fits : (base cap most n : ℕ) → 0 < base → base ^ cap ≤ 2 ^ 64 → between 1 (min most cap) n ≡ true → base ^ n ≤ 2 ^ 64
-fits base cap most n pos h e =
-    let w = inside 1 (min most cap) n e in
-    le-trans (pow-le-pow-right {n = base} pos (omega arith)) h
+-- ---- from 1 to a limit
 
-pub decimal-is : (most : ℕ) (l : List ℕ) (x y : Bool) → between 1 (min most 19) (length l) ≡ x → eqb (length l) 1 || ltb 48 (getD l 0 0) ≡ y → decimalRead most l ≡ pick (x && y) (digitsRead 10 0 l) Bad
-unfolding decimalRead isDecimal
-decimal-is most l x y e f = rw (← e, ← f) (form-is isDigit decimalDigit 10 decimal-class decimal-digit l _)
+module _ (most limit : ℕ) (l : List ℕ) where
+  pub count-exactly : {r : Number} → r ≡ countRead most limit l → (p : ℕ) → 1 ≤ most → 1 ≤ limit → r ≡ Bad p → LongestViable (isCount (min most 19) limit) l p
+  unfolding countRead
+  count-exactly a p h k e = placed (isCount (min most 19) limit) l (decimalValue l) (countPlace (min most 19) limit l) (count-longest (min most 19) limit l (omega arith) k) a p e
 
-pub hex-is : (most : ℕ) (l : List ℕ) (t : Bool) → between 1 (min most 16) (length l) ≡ t → hexRead most l ≡ pick t (digitsRead 16 0 l) Bad
-unfolding hexRead isHexNumber
-hex-is most l t e = rw (← e) (form-is isHex hexDigit 16 hex-class hex-digit l _)
+  module _ (h : most ≤ 19) where
+    count-read : countRead most limit l ≡ pick (isCount most limit l) (Value (decimalValue l)) (Bad (countPlace most limit l))
+    unfolding countRead
+    count-read = rw (min-eq-left {n = most} {m = 19} h)
 
--- ---- the texts
+    pub count-found : (v : ℕ) → countRead most limit l ≡ Value v → (isCount most limit l ≡ true) × (v ≡ decimalValue l)
+    count-found v e = found _ _ _ v (sym count-read ∙ e)
 
-pub decimal-parts : (most : ℕ) (l : List ℕ) → isDecimal most l ≡ true → (all isDigit l ≡ true) × (1 ≤ length l) × (length l ≤ most)
-unfolding isDecimal
-decimal-parts most l e =
-    let w = both _ _ e in
-    let v = both _ _ (both _ _ (w .1) .0) in
-    (w .0, leb-true _ _ (v .0), leb-true _ _ (v .1))
+    pub count-missed : (p : ℕ) → countRead most limit l ≡ Bad p → isCount most limit l ≡ false
+    count-missed p e = missed _ _ _ p (sym count-read ∙ e) .0
 
-pub hex-parts : (most : ℕ) (l : List ℕ) → isHexNumber most l ≡ true → (all isHex l ≡ true) × (1 ≤ length l) × (length l ≤ most)
-unfolding isHexNumber
-hex-parts most l e =
-    let w = both _ _ e in
-    let v = both _ _ (w .1) in
-    (w .0, leb-true _ _ (v .0), leb-true _ _ (v .1))
+-- ---- hex
 
-pub decimal-bound : (most : ℕ) (l : List ℕ) → isDecimal most l ≡ true → decimalValue l < 10 ^ most
-decimal-bound most l e =
-    let w = decimal-parts most l e in
-    value-bound isDigit decimalDigit 10 decimal-class decimal-digit (lit< tt) l most (w .0) (w .2)
+module _ (most : ℕ) (l : List ℕ) where
+  pub hex-exactly : {r : Number} → r ≡ hexRead most l → (p : ℕ) → 1 ≤ most → r ≡ Bad p → LongestViable (isHexNumber (min most 16)) l p
+  unfolding hexRead
+  hex-exactly a p h e = placed (isHexNumber (min most 16)) l (hexValue l) (hexPlace (min most 16) l) (hex-longest (min most 16) l (omega arith)) a p e
 
-pub hex-bound : (most : ℕ) (l : List ℕ) → isHexNumber most l ≡ true → hexValue l < 16 ^ most
-hex-bound most l e =
-    let w = hex-parts most l e in
-    value-bound isHex hexDigit 16 hex-class hex-digit (lit< tt) l most (w .0) (w .2)
+  module _ (h : most ≤ 16) where
+    hex-read : hexRead most l ≡ pick (isHexNumber most l) (Value (hexValue l)) (Bad (hexPlace most l))
+    unfolding hexRead
+    hex-read = rw (min-eq-left {n = most} {m = 16} h)
+
+    pub hex-found : (v : ℕ) → hexRead most l ≡ Value v → (isHexNumber most l ≡ true) × (v ≡ hexValue l)
+    hex-found v e = found _ _ _ v (sym hex-read ∙ e)
+
+    pub hex-missed : (p : ℕ) → hexRead most l ≡ Bad p → isHexNumber most l ≡ false
+    hex-missed p e = missed _ _ _ p (sym hex-read ∙ e) .0

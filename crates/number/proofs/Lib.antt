@@ -1,5 +1,11 @@
 pub mod Classes
 pub mod Values
+pub mod Accepting
+pub mod Places
+pub mod Fronts
+pub mod Limits
+pub mod Readers
 pub mod Forms
+pub mod Samples
 pub mod Numerals
 pub mod Placing

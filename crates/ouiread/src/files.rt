@@ -1,8 +1,9 @@
 // The files, by the number of the argument that names each.
 use crate::filling::fill;
 use crate::messages::unread;
+use crate::options;
 
-// The arguments: STREAM RING ANSWERS [CUTS [BODY]], and --tally as the last one where the tally is asked for.
+// STREAM RING ANSWERS [CUTS [BODY]]
 pub const STREAM: usize = 1;
 
 pub const RING: usize = 2;
@@ -20,29 +21,6 @@ pub const ABSENT: i32 = -2;
 pub enum Loaded {
     Text(usize),
     Nothing,
-}
-
-// Whether the last argument asks for the tally.
-pub fn tally_asked() -> bool {
-    let mut word = io::buffer();
-    let n = os::arg(before(os::arg_count()), &mut word);
-    text::same(&word[..n], b"--tally")
-}
-
-// How many arguments there are without that one, the program's name among them.
-pub fn arg_count() -> usize {
-    let count = os::arg_count();
-    if tally_asked() {
-        return before(count);
-    }
-    count
-}
-
-fn before(n: usize) -> usize {
-    if n == 0 {
-        return 0;
-    }
-    n - 1
 }
 
 // Opens a file to be read and sees that it can be: a folder opens, and no byte can be read from it.
@@ -78,7 +56,7 @@ pub fn load(i: usize, text: &mut [u8]) -> Loaded {
 
 // Opens a file to be written, where the argument is there.
 pub fn create(i: usize) -> i32 {
-    if arg_count() <= i {
+    if options::read().files <= i {
         return ABSENT;
     }
     let mut path = io::buffer();

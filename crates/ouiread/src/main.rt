@@ -1,6 +1,6 @@
-// `ouiread STREAM RING ANSWERS [CUTS [BODY]] [--tally]` reads a signature stream in pieces and writes a line for each event and, where
-// it is asked for, a last one with the tally. A file that is missing or malformed gives one line on standard error and no event. A
-// program of this language has no exit status: the lines tell.
+// `ouiread STREAM RING ANSWERS [CUTS [BODY]] [--tally] [--where]` reads a signature stream in pieces and writes a line for each event; where
+// it is asked for, a refusal's line says where the text went wrong, and a last line has the tally. A file that is missing or malformed gives one
+// line on standard error and no event. A program of this language has no exit status: the lines tell.
 mod answers; // the letters y and n, read as they are needed
 mod cuts; // the lengths of the pieces
 mod files; // the files by the number of their argument
@@ -8,12 +8,14 @@ mod filling; // the next bytes of an open file
 mod lending; // the ring as a lent table
 mod lines; // lines and their words in a text
 mod messages; // what is written
+mod options; // what is asked for after the files
 mod records; // the key ring's records
 mod sitting; // events, and what they lead to
 mod streaming; // the stream, piece by piece
 mod tallying; // the tally, counted in place
 
 use answers::Answers;
+use files::ANSWERS;
 use files::BODY;
 use files::CUTS;
 use files::Loaded;
@@ -60,7 +62,7 @@ fn with_cuts(
     ring: KeyRing,
     answers: Answers,
 ) {
-    if files::arg_count() <= CUTS {
+    if options::read().files <= CUTS {
         with_stream(head, block, question, piece, b"65536", ring, answers);
         return;
     }
@@ -118,7 +120,7 @@ fn with_stream(
 
 // The last line, where it is asked for and no line before it was lost.
 fn tell_tally(s: Sitting) {
-    if s.lost | !files::tally_asked() {
+    if s.lost | !options::read().tally {
         return;
     }
     let day = s.tally;
@@ -128,12 +130,8 @@ fn tell_tally(s: Sitting) {
 }
 
 fn main() {
-    let count = files::arg_count();
-    if count < 4 {
-        messages::usage();
-        return;
-    }
-    if 6 < count {
+    let asked = options::read();
+    if !asked.good | (asked.files <= ANSWERS) | (BODY + 1 < asked.files) {
         messages::usage();
         return;
     }

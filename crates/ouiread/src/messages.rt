@@ -1,6 +1,8 @@
 // What is written: events to standard output, and what is wrong with a file to standard error.
+use crate::options;
 use libc::STDERR_FILENO;
 use libc::STDOUT_FILENO;
+use refusals::Refusal;
 use tally::Tally;
 
 fn err(text: &[u8]) {
@@ -8,7 +10,7 @@ fn err(text: &[u8]) {
 }
 
 pub fn usage() {
-    err(b"usage: ouiread STREAM RING ANSWERS [CUTS [BODY]] [--tally]\n");
+    err(b"usage: ouiread STREAM RING ANSWERS [CUTS [BODY]] [--tally] [--where]\n");
 }
 
 // What is wrong on a line of the file that argument i names.
@@ -36,8 +38,17 @@ pub fn question(length: usize) -> bool {
     event(b"question ", length as u64)
 }
 
-pub fn refused(number: u8) -> bool {
+// Where the text went wrong is told only where it is asked for, and only by the numbers that have such a place.
+pub fn refused(why: Refusal) -> bool {
+    let number = why.number;
+    if options::read().places & refusals::has_place(number) {
+        return placed(number as u64, why.at as u64);
+    }
     event(b"refused ", number as u64)
+}
+
+fn placed(number: u64, at: u64) -> bool {
+    say(b"refused ") && io::print_decimal(STDOUT_FILENO, number) && event(b" at ", at)
 }
 
 pub fn block(offset: u64, length: usize) -> bool {

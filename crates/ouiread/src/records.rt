@@ -22,24 +22,30 @@ const KEY_LENGTH: usize = 44;
 
 const LARGEST_TENTH: u64 = 1844674407370955161;
 
+// A second's text read.
+enum Moment {
+    At(u64),
+    Wrong,
+}
+
 // A second of 20 digits, in two parts: it is below 2^64.
-fn long_second(s: &[u8]) -> Number {
+fn long_second(s: &[u8]) -> Moment {
     let Number::Value(n) = number::decimal(places::part(s, 0, 19), 19) else {
-        return Number::Bad;
+        return Moment::Wrong;
     };
     let Number::Value(d) = number::decimal(places::part(s, 19, 20), 1) else {
-        return Number::Bad;
+        return Moment::Wrong;
     };
     if LARGEST_TENTH < n {
-        return Number::Bad;
+        return Moment::Wrong;
     }
     if (n == LARGEST_TENTH) & (5 < d) {
-        return Number::Bad;
+        return Moment::Wrong;
     }
     if 9 < d {
-        return Number::Bad;
+        return Moment::Wrong;
     }
-    Number::Value(joined(n, d))
+    Moment::At(joined(n, d))
 }
 
 fn joined(n: u64, d: u64) -> u64 {
@@ -53,11 +59,14 @@ fn joined(n: u64, d: u64) -> u64 {
     tens + d
 }
 
-fn second(s: &[u8]) -> Number {
+fn second(s: &[u8]) -> Moment {
     if s.len() == 20 {
         return long_second(s);
     }
-    number::decimal(s, 19)
+    let Number::Value(n) = number::decimal(s, 19) else {
+        return Moment::Wrong;
+    };
+    Moment::At(n)
 }
 
 fn no_record() -> Record {
@@ -80,10 +89,10 @@ fn record_of(key_text: &[u8], seconds: &[u8]) -> Record {
         return no_record();
     }
     let space = cut_off(seconds, 0, b' ');
-    let Number::Value(first) = second(places::part(seconds, 0, space.end)) else {
+    let Moment::At(first) = second(places::part(seconds, 0, space.end)) else {
         return no_record();
     };
-    let Number::Value(last) = second(places::part(seconds, space.next, seconds.len())) else {
+    let Moment::At(last) = second(places::part(seconds, space.next, seconds.len())) else {
         return no_record();
     };
     let entry = KeyRecord { key, first, last };

@@ -95,7 +95,7 @@ fn tell_plain(s: Sitting, block: &[u8], word: Word) -> Sitting {
         Word::Head(status) => written(s, messages::event(b"head ", status)),
         Word::Block { offset, length } => tell_block(s, block, offset.0, length),
         Word::Closed(total) => stopped(written(s, messages::event(b"closed ", total))),
-        Word::Refused(number) => stopped(written(s, messages::refused(number))),
+        Word::Refused(why) => stopped(written(s, messages::refused(why))),
     }
 }
 

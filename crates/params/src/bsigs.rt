@@ -50,18 +50,12 @@ fn judge(key: &[u8], size: &[u8]) -> Bsigs
     if !base64::key(key, &mut bytes) {
         return no_bsigs();
     }
-    let Number::Value(n) = number::decimal(size, limits::SIZE_DIGITS) else {
-        return no_bsigs();
-    };
-    if n < 1 {
-        return no_bsigs();
-    }
-    if limits::BLOCK_LIMIT < n {
-        return no_bsigs();
-    }
-    Bsigs {
-        good: true,
-        key: bytes,
-        size: n as usize,
+    match number::count(size, limits::SIZE_DIGITS, limits::BLOCK_LIMIT) {
+        Number::Value(n) => Bsigs {
+            good: true,
+            key: bytes,
+            size: n as usize,
+        },
+        Number::Bad(_) => no_bsigs(),
     }
 }

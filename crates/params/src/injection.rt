@@ -64,7 +64,7 @@ fn judge(id: &[u8], time: &[u8]) -> Injection
             id: fill(id),
             time: seconds,
         },
-        Number::Bad => no_injection(),
+        Number::Bad(_) => no_injection(),
     }
 }
 

@@ -95,6 +95,6 @@ fn judge(value: &[u8], key: Run, created: Run, names: Run, signature: Run) -> Si
             names_start: names.start,
             names_end: names.end,
         },
-        Number::Bad => no_sig0(),
+        Number::Bad(_) => no_sig0(),
     }
 }

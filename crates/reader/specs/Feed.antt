@@ -4,6 +4,7 @@ use mathlib.Core.List.{List}
 use Prim.Native.Nat.{ℕ}
 use lib.Dec.{leb}
 use Rattle.octets.specs.Choice.{pick}
+use Rattle.refusals.specs.Refusals.{plain}
 use Rattle.ring.specs.Keys.{ringOf}
 use Rattle.ring.specs.declared.KeyRing.{KeyRing}
 use Rattle.stream.specs.Limits.{ringLimit}
@@ -23,15 +24,15 @@ use Rattle.calls.specs.Response.{Response, response, telling, unchanged, fits, 
 -- one byte, by the phase; a feed pushes none where a question is open or the last word is said
 unfoldable pub pushAt : Ring → Phase → Configuration → ℕ → Next
 pushAt ring (P.Head have) d x = pushHead ring d have x
-pushAt ring (P.HeadAsked n) d x = stop (W.Refused 1) noSignature d
+pushAt ring (P.HeadAsked n) d x = stop (W.Refused (plain 1)) noSignature d
 pushAt ring (P.FirstLine have) d x = pushFirstLine d have x
 pushAt ring (P.Data have size) d x = pushData d have size x
 pushAt ring (P.DataEnd have size) d x = pushDataEnd d have size x
 pushAt ring (P.NextLine have size) d x = pushNextLine d have size x
-pushAt ring (P.BlockAsked size next) d x = stop (W.Refused 1) noSignature d
+pushAt ring (P.BlockAsked size next) d x = stop (W.Refused (plain 1)) noSignature d
 pushAt ring (P.Trailer have total) d x = pushTrailer d have total x
-pushAt ring (P.Closed total) d x = stop (W.Refused 1) noSignature d
-pushAt ring (P.Refused n) d x = stop (W.Refused 1) noSignature d
+pushAt ring (P.Closed total) d x = stop (W.Refused (plain 1)) noSignature d
+pushAt ring (P.Refused n) d x = stop (W.Refused (plain 1)) noSignature d
 
 abbrev pub pushByte : Ring → Configuration → ℕ → Next
 pushByte ring d x = pushAt ring (d .reader .phase) d x

@@ -13,12 +13,20 @@ use state::Reader;
 use state::Stepped;
 use state::Word;
 ghost use mathlib.Core.Path.{_≡_};
+ghost use Rattle.refusals.specs.Refusals.{plain};
 ghost use Rattle.ring.specs.Keys.{ringOf};
-ghost use Rattle.state.specs.Configuration.{configuration, nextOf};
+ghost use Rattle.state.specs.Configuration.{configuration, nextOf, saying};
 ghost use Rattle.calls.specs.Response.{made};
 ghost use Rattle.reader.specs.Feed.{pushByte, takenFrom, feedOf};
 
-// One byte, by the phase. In a phase that takes no bytes nothing changes.
+// In a phase that takes no bytes nothing changes.
+fn not_due(r: Reader) -> Stepped
+    ensures { λ s. ⌜ s ≡ saying (Word.Refused (plain 1)) r ⌝ }
+{
+    state::said(Word::Refused(refusals::plain(1)), r)
+}
+
+// One byte, by the phase.
 fn push(
     r: Reader,
     head: &mut [u8],
@@ -32,7 +40,7 @@ fn push(
     let phase = r.phase;
     match phase {
         Phase::Head(have) => head_steps::push_head(r, head, question, ring, have, x),
-        Phase::HeadAsked(_) => state::said(Word::Refused(1), r),
+        Phase::HeadAsked(_) => not_due(r),
         Phase::FirstLine(have) => line_steps::push_first_line(r, have, x),
         Phase::Data { have, size } => body_steps::push_data(r, block, have, size, x),
         Phase::DataEnd { have, size } => body_steps::push_data_end(r, block, have, size, x),
@@ -44,10 +52,10 @@ fn push(
             size,
             x,
         ),
-        Phase::BlockAsked { size: _, next: _ } => state::said(Word::Refused(1), r),
+        Phase::BlockAsked { size: _, next: _ } => not_due(r),
         Phase::Trailer { have, total } => body_steps::push_trailer(r, block, have, total, x),
-        Phase::Closed(_) => state::said(Word::Refused(1), r),
-        Phase::Refused(_) => state::said(Word::Refused(1), r),
+        Phase::Closed(_) => not_due(r),
+        Phase::Refused(_) => not_due(r),
     }
 }
 

@@ -28,16 +28,16 @@ firstIn (W.Question n key) = n
 firstIn (W.Head status) = status
 firstIn (W.Block offset n) = offset .0
 firstIn (W.Closed total) = total
-firstIn (W.Refused n) = n
+firstIn (W.Refused why) = why .number
 
--- the number of a record, a block's length
+-- the number of a record, a block's length, where a text went wrong
 abbrev pub secondIn : Word → ℕ
 secondIn W.More = 0
 secondIn (W.Question n key) = key
 secondIn (W.Head status) = 0
 secondIn (W.Block offset n) = n
 secondIn (W.Closed total) = 0
-secondIn (W.Refused n) = 0
+secondIn (W.Refused why) = why .at
 
 unfoldable pub resultBytes : Word → ℕ → List ℕ → List ℕ
 resultBytes w taken signature = allBytes (wordOf w ∷ taken ∷ firstIn w ∷ secondIn w ∷ []) ++ signature

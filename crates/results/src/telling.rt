@@ -41,7 +41,7 @@ fn first_in(w: Word) -> u64
         Word::Head(status) => status,
         Word::Block { offset, length: _ } => start(offset),
         Word::Closed(total) => total,
-        Word::Refused(number) => number as u64,
+        Word::Refused(why) => why.number as u64,
     }
 }
 
@@ -54,7 +54,7 @@ fn second_in(w: Word) -> u64
         Word::Head(_) => 0,
         Word::Block { offset: _, length } => length as u64,
         Word::Closed(_) => 0,
-        Word::Refused(_) => 0,
+        Word::Refused(why) => why.at as u64,
     }
 }
 

@@ -62,7 +62,7 @@ is-trusted true (some i) k h = (refl, cc)
 is-trusted false o k h = absurd (never k (sym h))
 
 module _ (ring : Ring) (text question : List ℕ) (r : HeadRead) (x : Reads text r) where
-  pub judged-broken : (r .fault ≡ 0 → ⊥) → judged (noneAsked (r .fault)) question ≡ headJudged ring text question
+  pub judged-broken : (r .fault ≡ 0 → ⊥) → judged (noneAsked (r .fault) text) question ≡ headJudged ring text question
   unfolding headJudged
   judged-broken h =
       let e : headFault ring text ≡ r .fault = fault-first ring text (λ q. h (x .fault ∙ q)) ∙ sym (x .fault) in
@@ -95,7 +95,7 @@ module _ (ring : Ring) (text question : List ℕ) (r : HeadRead) (x : Reads text
     unfolding headFault trustRules firstBroken
     fault-is = rw (found-is, block-key, head-key) (kept-first (textRules text (headOf text)) (trustRules ring (headOf text)) (rules-kept text r x z))
 
-    pub judged-untrusted : none ≡ pick sameKeys record-found none → judged (noneAsked 12) question ≡ headJudged ring text question
+    pub judged-untrusted : none ≡ pick sameKeys record-found none → judged (noneAsked 12 text) question ≡ headJudged ring text question
     unfolding headJudged
     judged-untrusted h = rw (fault-is ∙ untrusted sameKeys record-found (sym h))
 
@@ -104,7 +104,7 @@ module _ (ring : Ring) (text question : List ℕ) (r : HeadRead) (x : Reads text
       abbrev trusts : (trustFault sameKeys record-found ≡ 0) × (numberOf record-found ≡ k)
       trusts = is-trusted sameKeys record-found k (sym h)
 
-      pub judged-short : length question < length text → judged (noneAsked 3) question ≡ headJudged ring text question
+      pub judged-short : length question < length text → judged (noneAsked 3 text) question ≡ headJudged ring text question
       unfolding headJudged
       judged-short l = rw (fault-is ∙ trusts .0, lt-leb (length text) (length question) l)
 

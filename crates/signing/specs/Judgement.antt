@@ -5,9 +5,11 @@ use lib.Dec.{eqb, leb}
 use lib.ListN.{length, drop, replicate}
 use Rattle.octets.specs.Choice.{pick}
 use Rattle.params.specs.Injection.{padded}
+use Rattle.refusals.specs.Refusals.{refusalOf}
 use Rattle.stream.specs.Head.{Head, headOf, statusDigits, blockSize, injectionId, headSignature, signingString, trustedBy, headFault}
 use Rattle.stream.specs.Limits.{idLimit}
 use Rattle.stream.specs.Numbers.{decimalValue}
+use Rattle.stream.specs.Places.{headPlace}
 use Rattle.stream.specs.Ring.{Ring, numberOf}
 use Rattle.signing.specs.declared.judging.HeadAnswer.the-variants.{Refused, Asks}
 use Rattle.signing.specs.declared.judging.Judged.{Judged}
@@ -20,9 +22,9 @@ pub record Judgement : Type 0 where
 abbrev pub judged : Judged → List ℕ → Judgement
 judged answer question = record { answer = answer; question = question }
 
--- a refusal tells its number and nothing else
-abbrev pub noneAsked : ℕ → Judged
-noneAsked n = record { answer = Refused n; signature = replicate 64 0; id = replicate idLimit 0 }
+-- a refusal tells its number, and with 3 the place of the head's text, and nothing else
+abbrev pub noneAsked : ℕ → List ℕ → Judged
+noneAsked n l = record { answer = Refused (refusalOf n (headPlace l)); signature = replicate 64 0; id = replicate idLimit 0 }
 
 -- *question*: the signing string at the front of the buffer, the signature that is to be its, and the number of the key's record;
 -- with them what is told once the signature is good
@@ -41,5 +43,5 @@ asked key h question =
 unfoldable pub headJudged : Ring → List ℕ → List ℕ → Judgement
 headJudged ring l question =
     pick (eqb (headFault ring l) 0)
-    (pick (leb (length l) (length question)) (asked (numberOf (trustedBy ring (headOf l))) (headOf l) question) (judged (noneAsked 3) question))
-    (judged (noneAsked (headFault ring l)) question)
+    (pick (leb (length l) (length question)) (asked (numberOf (trustedBy ring (headOf l))) (headOf l) question) (judged (noneAsked 3 l) question))
+    (judged (noneAsked (headFault ring l) l) question)

@@ -2,6 +2,7 @@
 use crate::string;
 use head::HeadRead;
 use head::Signed;
+use refusals::Refusal;
 use ring::Found;
 use ring::KeyRing;
 ghost use mathlib.Core.Option.{none};
@@ -16,10 +17,10 @@ ghost use Rattle.stream.specs.Head.{headOf};
 ghost use Rattle.stream.specs.Ring.{found};
 ghost use Rattle.signing.specs.Judgement.{asked, headJudged, judged, noneAsked};
 
-// Refused with a number. Or accepted if a signature is good, of the string whose `length` bytes were written: the status, the
+// Refused. Or accepted if a signature is good, of the string whose `length` bytes were written: the status, the
 // size of a block, the number of the key's record, and the length of the id.
 pub enum HeadAnswer {
-    Refused(u8),
+    Refused(Refusal),
     Asks {
         status: u64,
         size: usize,
@@ -43,23 +44,25 @@ pub fn judge(text: &[u8], ring: KeyRing, question: &mut [u8]) -> Judged
     let head = head::read(text);
     let fault = head.fault;
     if fault != 0 {
-        return refused(fault);
+        return refused(text, fault);
     }
     let signed = head.signed;
     let Found::At(key) = trusted(ring, signed) else {
-        return refused(12);
+        return refused(text, 12);
     };
     if question.len() < text.len() {
-        return refused(3);
+        return refused(text, 3);
     }
     ask(text, head, key, question)
 }
 
-fn refused(number: u8) -> Judged
-    ensures { λ r. ⌜ r ≡ noneAsked number ⌝ }
+// The place is that of the head's text.
+fn refused(text: &[u8], number: u8) -> Judged
+    ensures { λ r. ⌜ r ≡ noneAsked number (now (text .entry)) ⌝ }
 {
+    let why = refusals::of_section(number, scanning::head_place(text));
     Judged {
-        answer: HeadAnswer::Refused(number),
+        answer: HeadAnswer::Refused(why),
         signature: [0; 64],
         id: [0; 64],
     }

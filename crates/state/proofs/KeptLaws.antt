@@ -4,6 +4,7 @@ use mathlib.Core.Path.{_≡_, refl, _∙_}
 use Prim.Native.Nat.{ℕ}
 use lib.ListN.{length}
 use Rattle.octets.specs.Choice.{pick}
+use Rattle.refusals.specs.declared.Refusal.{Refusal}
 use Rattle.state.specs.Configuration.{Configuration, Next, on, stop, refuse}
 use Rattle.state.proofs.BufferLaws.{length-cleared}
 
@@ -29,6 +30,6 @@ kept-pick d false m n a b = b
 pub kept-after : (d d' : Configuration) (n : Next) → Kept d (on d') → Kept d' n → Kept d n
 kept-after d d' n a b = record { head = b .head ∙ a .head; block = b .block ∙ a .block; question = b .question ∙ a .question }
 
-pub kept-refuse : (n count : ℕ) (d : Configuration) → Kept d (refuse n count d)
+pub kept-refuse : (why : Refusal) (count : ℕ) (d : Configuration) → Kept d (refuse why count d)
 unfolding refuse
-kept-refuse n count d = record { head = refl; block = length-cleared count (d .block); question = refl }
+kept-refuse why count d = record { head = refl; block = length-cleared count (d .block); question = refl }

@@ -4,6 +4,7 @@ use mathlib.Core.List.{List, _++_}
 use Prim.Native.Nat.{ℕ, min}
 use lib.ListN.{length, drop, replicate}
 use Rattle.octets.specs.Choice.{pick}
+use Rattle.refusals.specs.declared.Refusal.{Refusal}
 use Rattle.stream.specs.Limits.{idLimit, lineLimit}
 use Rattle.state.specs.declared.phase.Phase.{Phase}
 use Rattle.state.specs.declared.phase.Phase.the-variants as P
@@ -116,7 +117,7 @@ unfoldable pub cleared : ℕ → List ℕ → List ℕ
 cleared n l = replicate (min n (length l)) 0 ++ drop n l
 
 -- "sets the pending bytes gathered in the block hold to zero and alters no other byte of any hold": `count` are pending
-unfoldable pub refuse : ℕ → ℕ → Configuration → Next
-refuse n count d =
-    stop (W.Refused n) noSignature
-    (configuration (inPhase (d .reader) (P.Refused n)) (d .head) (cleared count (d .block)) (d .question))
+unfoldable pub refuse : Refusal → ℕ → Configuration → Next
+refuse why count d =
+    stop (W.Refused why) noSignature
+    (configuration (inPhase (d .reader) (P.Refused (why .number))) (d .head) (cleared count (d .block)) (d .question))

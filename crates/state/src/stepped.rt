@@ -4,6 +4,7 @@ use crate::phase::Phase;
 use crate::reader::Reader;
 use crate::reader::in_phase;
 use crate::word::Word;
+use refusals::Refusal;
 ghost use mathlib.Core.List.{List};
 ghost use mathlib.Core.Path.{_≡_};
 ghost use Prim.Native.Nat.{ℕ};
@@ -29,9 +30,9 @@ pub fn said(word: Word, r: Reader) -> Stepped
 }
 
 // A final refusal: the first `count` bytes of the block buffer, those that are pending, are set to zero.
-pub fn refused(r: Reader, block: &mut [u8], count: usize, number: u8) -> Stepped
-    ensures { λ s. ⌜ ((h q : List ℕ) → nextOf s h (now (block .exit)) q ≡ refuse number count (configuration r h (now (block .entry)) q)) ⌝ }
+pub fn refused(r: Reader, block: &mut [u8], count: usize, why: Refusal) -> Stepped
+    ensures { λ s. ⌜ ((h q : List ℕ) → nextOf s h (now (block .exit)) q ≡ refuse why count (configuration r h (now (block .entry)) q)) ⌝ }
 {
     clear(block, count);
-    said(Word::Refused(number), in_phase(r, Phase::Refused(number)))
+    said(Word::Refused(why), in_phase(r, Phase::Refused(why.number)))
 }

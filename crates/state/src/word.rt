@@ -1,5 +1,6 @@
 // The words of the reader.
 use blocks::ByteOffset;
+use refusals::Refusal;
 ghost use mathlib.Core.Path.{_≡_};
 ghost use Rattle.state.specs.Configuration.{goesOn};
 
@@ -10,7 +11,7 @@ pub enum Word {
     Head(u64),
     Block { offset: ByteOffset, length: usize },
     Closed(u64),
-    Refused(u8),
+    Refused(Refusal),
 }
 
 // Whether the reader goes on to the next byte: any other word ends the call.

@@ -41,7 +41,7 @@ lineSays (go (trailer total)) = 100 ∷ 0 ∷ []
 lineSays (tell e c) = []
 lineSays (ask q y) = []
 lineSays (stop (closed n)) = []
-lineSays (stop (refused n)) = n ∷ []
+lineSays (stop (refused n at)) = n ∷ []
 
 first : String → List ℕ
 first line = lineSays (judgeFirstLine show (octets line ++ octets "\r\n"))
@@ -52,7 +52,7 @@ told (question q) = 1 ∷ length (q .message) ∷ []
 told (message (headAccepted status signed)) = 2 ∷ status ∷ []
 told (message (block offset bytes)) = 3 ∷ offset ∷ length bytes ∷ []
 told (last (closed total)) = 4 ∷ total ∷ []
-told (last (refused n)) = 5 ∷ n ∷ []
+told (last (refused n at)) = 5 ∷ n ∷ []
 
 events : Log Question Release LastWord → List ℕ
 events [] = []
@@ -65,7 +65,7 @@ pub record Case : Type 0 where
   pub got : List ℕ
   pub due : List ℕ
 
-abbrev case : String → List ℕ → List ℕ → Case
+abbrev pub case : String → List ℕ → List ℕ → Case
 case name got due = record { name = name; got = got; due = due }
 
 abbrev good : List ℕ
@@ -102,7 +102,7 @@ table =
     ∷ case "P12" (length (fieldOf (octets "Content-Type:  text/plain ") .value) ∷ []) (10 ∷ [])
     ∷ []
 
-pub holdsAll : List Case → Bool
+unfoldable pub holdsAll : List Case → Bool
 holdsAll [] = true
 holdsAll (c ∷ cs) = same (c .got) (c .due) && holdsAll cs
 

@@ -1,5 +1,6 @@
 pub mod Example
 pub mod Cases
+pub mod PlaceCases
 pub mod Truth
 pub mod RulesHold
 pub mod ScanSizes

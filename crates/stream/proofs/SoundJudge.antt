@@ -20,6 +20,7 @@ use Rattle.stream.specs.Numbers.{isDecimal}
 use Rattle.stream.specs.Ring.{Ring}
 use Rattle.stream.specs.Rule.{rule, firstBroken}
 use Rattle.stream.specs.Signatures.{isInjection, isBsigs}
+use Rattle.stream.specs.Places.{dataEndPlace, trailerPlace}
 use Rattle.stream.specs.Stream.{Show, Past, nothing, after, Context, head, firstLine, blockData, dataEnd, nextLine, trailer, isWhole, Says, announced, unlessBroken, showOf, headQuestion, acceptHead, judgeHead, judgeFirstLine, judgeDataEnd, blockOffset, bodyWith, blockQuestion, acceptBlock, judgeNextLine, judgeTrailer, judge}
 use Rattle.stream.specs.Template.{isLike, kept}
 use Rattle.stream.specs.Trailer.{isTrailer}
@@ -38,7 +39,7 @@ SoundRelease (block offset b) = (1 ≤ length b) × (length b ≤ blockLimit) ×
 
 abbrev pub SoundLast : LastWord → Type 0
 SoundLast (closed total) = total ≤ bodyLimit
-SoundLast (refused n) = Unit {0}
+SoundLast (refused n at) = Unit {0}
 
 -- a message is no longer than a head may be
 abbrev pub SoundQuestion : Question → Type 0
@@ -55,9 +56,9 @@ SoundSays (ask q y) = SoundQuestion q × SoundGrant y
 SoundSays (stop l) = SoundLast l
 
 -- a refusal is sound, and so is what is said where no rule is broken
-unless-sound : (n : ℕ) (says : Says) → (n ≡ 0 → SoundSays says) → SoundSays (unlessBroken n says)
-unless-sound zero says h = h refl
-unless-sound (suc n) says h = tt
+unless-sound : (n at : ℕ) (says : Says) → (n ≡ 0 → SoundSays says) → SoundSays (unlessBroken n at says)
+unless-sound zero at says h = h refl
+unless-sound (suc n) at says h = tt
 
 -- ---- a chunk line
 
@@ -84,7 +85,7 @@ announced-sound s p total (suc n) k t h b = record { show = k; some = omega arit
 
 first-sound : (s : Show) (l : List ℕ) → SoundShow s → SoundSays (judgeFirstLine s l)
 unfolding judgeFirstLine
-first-sound s l k = unless-sound _ _ λ e.
+first-sound s l k = unless-sound _ _ _ λ e.
     let r = line-kept (s .size) false true 0 l e in
     announced-sound s nothing 0 (chunkSize l) k (omega arith) (r .most) (λ h. rw zero-mul (r .body))
 
@@ -102,7 +103,7 @@ full-block s p b l r h =
 
 next-sound : (s : Show) (p : Past) (b l : List ℕ) → SoundBlock s p (length b) → SoundSays (judgeNextLine s p b l)
 unfolding judgeNextLine acceptBlock blockQuestion
-next-sound s p b l k = unless-sound _ _ λ e.
+next-sound s p b l k = unless-sound _ _ _ λ e.
     let r = line-kept (s .size) true (eqb (length b) (s .size)) (bodyWith s p b) l e in
     let o : blockOffset s p ≤ bodyLimit = omega (arith, k .body) in
     let m = message-length (s .id) (blockOffset s p) (p .hash) b (k .show .short-id) o in (
@@ -126,7 +127,7 @@ show-sound ring h i b =
 
 head-sound : (ring : Ring) (l : List ℕ) → length l ≤ headLimit → SoundSays (judgeHead ring l)
 unfolding judgeHead acceptHead headQuestion textRules trustRules
-head-sound ring l k = unless-sound _ (acceptHead ring (headOf l)) λ e.
+head-sound ring l k = unless-sound _ _ (acceptHead ring (headOf l)) λ e.
     let rules = head-rules-hold ring l e in
     (signing-bound ring l e k, (tt, show-sound ring (headOf l) (search) (search)))
 
@@ -136,7 +137,7 @@ end-sound : (s : Show) (p : Past) (b l : List ℕ) → SoundBlock s p (length b)
 unfolding judgeDataEnd
 end-sound s p b l k = by (same l crlf)
   where
-    by : (t : Bool) → SoundSays (elim t [ true ↦ go (nextLine s p b) | false ↦ stop (refused 6) ])
+    by : (t : Bool) → SoundSays (elim t [ true ↦ go (nextLine s p b) | false ↦ stop (refused 6 (dataEndPlace l)) ])
     by true = k
     by false = tt
 
@@ -144,7 +145,7 @@ trailer-sound : (total : ℕ) (l : List ℕ) → total ≤ bodyLimit → SoundSa
 unfolding judgeTrailer
 trailer-sound total l k = by (isTrailer l)
   where
-    by : (t : Bool) → SoundSays (elim t [ true ↦ stop (closed total) | false ↦ stop (refused 6) ])
+    by : (t : Bool) → SoundSays (elim t [ true ↦ stop (closed total) | false ↦ stop (refused 6 (trailerPlace l)) ])
     by true = k
     by false = tt
 

@@ -56,7 +56,7 @@ pending (trailer total) l = length l
 -- *closed* alters none
 unfoldable pub withLastWord : Context → List ℕ → LastWord → Buffers → Buffers
 withLastWord c l (closed total) b = b
-withLastWord c l (refused n) b = intoBlock (replicate (pending c l) 0) b
+withLastWord c l (refused n at) b = intoBlock (replicate (pending c l) 0) b
 
 abbrev pub effects : Effects Context Question LastWord Buffers
 effects = record { gather = withSection; ask = withMessage; finish = withLastWord }

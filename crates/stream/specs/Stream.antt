@@ -8,10 +8,11 @@ use lib.ListN.{length}
 use Rattle.sections.specs.Reading.{Log, Verdict, go, ask, stop, granted, Rules, reading}
 use Rattle.stream.specs.Blocks.{isWholeLine, chunkSize, lineSignature, lineFault, chained, blockMessage, offsetOf}
 use Rattle.stream.specs.Bytes.{same}
-use Rattle.stream.specs.Events.{Question, Release, headAccepted, block, LastWord, closed, refused}
+use Rattle.stream.specs.Events.{Question, Release, headAccepted, block, LastWord, closed, refused, placeOf}
 use Rattle.stream.specs.Head.{Head, isWholeHead, headOf, headFault, statusDigits, injectionId, blockSize, headSignature, signedOf, signingString, trustedBy}
 use Rattle.stream.specs.Lines.{crlf}
 use Rattle.stream.specs.Numbers.{decimalValue}
+use Rattle.stream.specs.Places.{headPlace, linePlace, dataEndPlace, trailerPlace}
 use Rattle.stream.specs.Ring.{Ring, numberOf}
 use Rattle.stream.specs.Trailer.{isWholeTrailer, isTrailer}
 
@@ -56,10 +57,10 @@ isWhole (trailer total) l = isWholeTrailer l
 abbrev pub Says : Type 0
 Says = Verdict Context Question Release LastWord
 
--- where no rule is broken, what is said, else the refusal
-abbrev pub unlessBroken : ℕ → Says → Says
-unlessBroken zero says = says
-unlessBroken (suc n) says = stop (refused (suc n))
+-- where no rule is broken, what is said; else the refusal, with the place of the section's text
+abbrev pub unlessBroken : ℕ → ℕ → Says → Says
+unlessBroken zero place says = says
+unlessBroken (suc n) place says = stop (refused (suc n) (placeOf (suc n) place))
 
 -- after a line that announces n bytes: a block, or, "size 0 ends the body", the trailer of a body of `total` bytes
 abbrev pub announced : Show → Past → ℕ → ℕ → Context
@@ -80,16 +81,16 @@ acceptHead ring h =
     ask (headQuestion ring h) (granted (headAccepted (decimalValue (statusDigits h)) (signedOf h)) (firstLine (showOf ring h)))
 
 unfoldable pub judgeHead : Ring → List ℕ → Says
-judgeHead ring l = unlessBroken (headFault ring l) (acceptHead ring (headOf l))
+judgeHead ring l = unlessBroken (headFault ring l) (headPlace l) (acceptHead ring (headOf l))
 
 -- "The first line carries no `ouisig`"; nothing is asked. No signature is due (false); there is no block before it that could be short
 -- (true); and the body has no bytes so far (0).
 unfoldable pub judgeFirstLine : Show → List ℕ → Says
-judgeFirstLine s l = unlessBroken (lineFault (s .size) false true 0 l) (go (announced s nothing 0 (chunkSize l)))
+judgeFirstLine s l = unlessBroken (lineFault (s .size) false true 0 l) (linePlace l) (go (announced s nothing 0 (chunkSize l)))
 
 -- "judged when both have come"
 unfoldable pub judgeDataEnd : Show → Past → List ℕ → List ℕ → Says
-judgeDataEnd s p b l = elim (same l crlf) [ true ↦ go (nextLine s p b) | false ↦ stop (refused 6) ]
+judgeDataEnd s p b l = elim (same l crlf) [ true ↦ go (nextLine s p b) | false ↦ stop (refused 6 (dataEndPlace l)) ]
 
 abbrev pub blockOffset : Show → Past → ℕ
 blockOffset s p = offsetOf (p .blocks) (s .size)
@@ -114,11 +115,11 @@ acceptBlock s p b l =
 
 unfoldable pub judgeNextLine : Show → Past → List ℕ → List ℕ → Says
 judgeNextLine s p b l =
-    unlessBroken (lineFault (s .size) true (eqb (length b) (s .size)) (bodyWith s p b) l) (acceptBlock s p b l)
+    unlessBroken (lineFault (s .size) true (eqb (length b) (s .size)) (bodyWith s p b) l) (linePlace l) (acceptBlock s p b l)
 
 -- "A good trailer gives *closed*"
 unfoldable pub judgeTrailer : ℕ → List ℕ → Says
-judgeTrailer total l = elim (isTrailer l) [ true ↦ stop (closed total) | false ↦ stop (refused 6) ]
+judgeTrailer total l = elim (isTrailer l) [ true ↦ stop (closed total) | false ↦ stop (refused 6 (trailerPlace l)) ]
 
 unfoldable pub judge : Ring → Context → List ℕ → Says
 judge ring head l = judgeHead ring l
@@ -132,7 +133,7 @@ judge ring (trailer total) l = judgeTrailer total l
 
 -- "a no gives refusal 10"; "a told end gives refusal 11"
 unfoldable pub rules : Ring → Rules Context Question Release LastWord
-rules ring = record { whole = isWhole; judge = judge ring; denied = refused 10; unfinished = refused 11 }
+rules ring = record { whole = isWhole; judge = judge ring; denied = refused 10 0; unfinished = refused 11 0 }
 
 -- "It is given stream bytes, ring, answers and whether the end was told"
 unfoldable pub plainReading : Ring → List ℕ → List Bool → Bool → Log Question Release LastWord

@@ -56,7 +56,7 @@ after-shown c (W.Question n key) = same-shown c
 after-shown c (W.Head status) = same-shown c
 after-shown c (W.Block offset n) = tally-same (grown-cut (c .blocks) 1) (grown-cut (c .bytes) n) (kept (c .closed)) (kept (c .refused))
 after-shown c (W.Closed total) = tally-same (kept (c .blocks)) (kept (c .bytes)) (grown-cut (c .closed) 1) (kept (c .refused))
-after-shown c (W.Refused n) = refused-shown c (isOfCall n)
+after-shown c (W.Refused why) = refused-shown c (isOfCall (why .number))
 
 -- ---- many words
 
@@ -85,7 +85,7 @@ event-as-word (question q) = refl
 event-as-word (message (headAccepted status fields)) = refl
 event-as-word (message (block offset bytes)) = refl
 event-as-word (last (closed total)) = refl
-event-as-word (last (refused n)) = refl
+event-as-word (last (refused n at)) = refl
 
 -- a log's words count what its events count
 pub log-as-words : (log : Log Question Release LastWord) → wordsCount (wordsOf log) ≡ countsOf log

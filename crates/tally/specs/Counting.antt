@@ -38,7 +38,7 @@ talliedAfter t (W.Question n key) = t
 talliedAfter t (W.Head status) = t
 talliedAfter t (W.Block offset n) = withBlock t n
 talliedAfter t (W.Closed total) = withClosed t
-talliedAfter t (W.Refused n) = refusedBy t n
+talliedAfter t (W.Refused why) = refusedBy t (why .number)
 
 -- the tally after the words of many calls, in their order
 unfoldable pub tallied : Tally → List Word → Tally

@@ -5,6 +5,7 @@ use lib.ListN.{length}
 use Rattle.octets.specs.Choice.{pick}
 use Rattle.sections.specs.Calls.{isOfCall}
 use Rattle.sections.specs.Reading.{Event, question, message, last, Log}
+use Rattle.refusals.specs.Refusals.{placed}
 use Rattle.stream.specs.Events.{Question, Release, headAccepted, block, LastWord, closed, refused}
 use Rattle.state.specs.declared.word.Word.{Word}
 use Rattle.state.specs.declared.word.Word.the-variants as W
@@ -49,7 +50,7 @@ eventCounts (question q) = nothing
 eventCounts (message (headAccepted status fields)) = nothing
 eventCounts (message (block offset bytes)) = counts 1 (length bytes) 0 0
 eventCounts (last (closed total)) = counts 0 0 1 0
-eventCounts (last (refused n)) = refusalCounts n
+eventCounts (last (refused n at)) = refusalCounts n
 
 -- a log's events, of one stream or of many after one another
 unfoldable pub countsOf : Log Question Release LastWord → Counts
@@ -65,7 +66,7 @@ wordCounts (W.Question n key) = nothing
 wordCounts (W.Head status) = nothing
 wordCounts (W.Block offset n) = counts 1 n 0 0
 wordCounts (W.Closed total) = counts 0 0 1 0
-wordCounts (W.Refused n) = refusalCounts n
+wordCounts (W.Refused why) = refusalCounts (why .number)
 
 unfoldable pub wordsCount : List Word → Counts
 wordsCount [] = nothing
@@ -77,7 +78,7 @@ wordOf (question q) = W.Question (length (q .message)) (q .keyNumber)
 wordOf (message (headAccepted status fields)) = W.Head status
 wordOf (message (block offset bytes)) = W.Block (record { 0 = offset }) (length bytes)
 wordOf (last (closed total)) = W.Closed total
-wordOf (last (refused n)) = W.Refused n
+wordOf (last (refused n at)) = W.Refused (placed n at)
 
 unfoldable pub wordsOf : Log Question Release LastWord → List Word
 wordsOf [] = []

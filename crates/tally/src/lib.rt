@@ -74,7 +74,7 @@ pub fn counted(t: Tally, word: Word) -> Tally
         Word::Head(_) => t,
         Word::Block { offset: _, length } => with_block(t, length),
         Word::Closed(_) => with_closed(t),
-        Word::Refused(number) => with_refused(t, number),
+        Word::Refused(why) => with_refused(t, why.number),
     }
 }
 

@@ -14,6 +14,14 @@ pub fn complaints(case: &Case, outcomes: &[Outcome; 2], have_status: [bool; 2]) 
     found
 }
 
+/// Whether it ends in a refusal that tells where the text went wrong.
+pub fn has_place(outcome: &Outcome) -> bool {
+    let line = last_line(outcome);
+    let mut words = line.split(' ');
+    let refused = words.next() == Some("refused") && matches!(words.next(), Some("3" | "6"));
+    refused && words.next() == Some("at") && words.next().is_some_and(|place| place.parse::<u64>().is_ok())
+}
+
 /// A program without an exit status of its own ends with 0 whatever it was given.
 fn due_status(case: &Case, has_status: bool) -> i32 {
     match case.expected {

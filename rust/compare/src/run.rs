@@ -74,6 +74,7 @@ impl Workshop {
         if case.cuts.is_some() {
             command.arg(CUTS).arg(&body);
         }
+        command.arg("--where");
         command.stdin(if case.through_pipe { Stdio::piped() } else { Stdio::null() });
         command.stdout(File::create(self.folder.join(&output)).map_err(failed)?);
         command.stderr(File::create(self.folder.join(&errors)).map_err(failed)?);

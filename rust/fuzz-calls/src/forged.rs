@@ -125,13 +125,16 @@ fn check_word(now: &Buffers, before: &Buffers, call: &Call, word: u8, due: Optio
     }
     let (named, size) = match word {
         raw::QUESTION => (outcome.first, raw::QUESTION_SIZE),
-        raw::BLOCK => (outcome.second, raw::BLOCK_SIZE),
+        raw::BLOCK | raw::REFUSED => (outcome.second, raw::BLOCK_SIZE),
         _ => (0, 0),
     };
     if named > size as u64 {
         return Err(format!("word {word} names {named} bytes of {size}"));
     }
     let refused = (word == raw::REFUSED).then_some(outcome.first);
+    if refused.is_some_and(|number| number != 3 && number != 6) {
+        same("the place of a refusal that has none", &outcome.second, &0)?;
+    }
     if due.is_some() {
         same("the refusal", &refused, &due)?;
     }

@@ -7,6 +7,7 @@ use crate::material::{ring_bytes, Material};
 use crate::tally::Tally;
 use ouinet_reader::raw;
 use second::calls::{Calls, Contents, Outcome, Word};
+use second::event::Refusal;
 use second::ring::Record;
 use streams::rng::Rng;
 
@@ -209,7 +210,7 @@ impl<'a> List<'a> {
     /// other may change the state, whose bytes are the library's own.
     fn expect(&mut self, outcome: &Outcome) {
         self.buffers.result.expect(&result_of(outcome));
-        if matches!(outcome.word, Word::Refused { number: 1 | 2 }) {
+        if matches!(outcome.word, Word::Refused(Refusal { number: 1 | 2, .. })) {
             return;
         }
         self.buffers.state.accept_front(raw::STATE_SIZE);

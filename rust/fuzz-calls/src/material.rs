@@ -10,6 +10,7 @@ use streams::random;
 use streams::rng::Rng;
 use streams::rules::{self, Rule};
 use streams::sequence::{Group, Sequence};
+use streams::wrong_text;
 
 /// A stream and its ring.
 #[derive(Clone)]
@@ -69,6 +70,7 @@ impl Pool {
             4 => Material::of_built("a small stream", rng.pick(&self.small)),
             5 => self.broken(rng),
             6 => Material::of_case(damage::several(&random::full_plan(rng).build(), rng)),
+            7 => Material::of_case(wrong_text::case(rng)),
             _ => Material::of_built("a random stream", &random::plan(rng).build()),
         }
     }

@@ -10,6 +10,8 @@ pub struct Tally {
     pub words: [u64; 5],
     /// By the refusal's number.
     pub refusals: [u64; 13],
+    /// Refusals that tell where the text went wrong.
+    pub places: u64,
     /// Calls whose state or result was too short.
     pub too_short: u64,
     /// Calls on states that no call wrote.
@@ -25,6 +27,7 @@ impl Tally {
         self.too_short += other.too_short;
         self.forged += other.forged;
         self.values += other.values;
+        self.places += other.places;
         for (mine, theirs) in self.words.iter_mut().zip(other.words) {
             *mine += theirs;
         }
@@ -43,6 +46,7 @@ impl fmt::Display for Tally {
         for (number, count) in self.refusals.iter().enumerate().skip(1) {
             write!(out, " {number}: {count}{}", if number < 12 { "," } else { "" })?;
         }
-        write!(out, "\nbuffers too short for any answer {}, values handed out {}", self.too_short, self.values)
+        writeln!(out, "\nrefusals with a place {}", self.places)?;
+        write!(out, "buffers too short for any answer {}, values handed out {}", self.too_short, self.values)
     }
 }

@@ -22,6 +22,7 @@ fn run(from: u64, count: u64) -> Tally {
 fn some_lists() {
     let tally = run(0, 2000);
     assert!(tally.words.iter().all(|&count| count > 0), "a word never came");
+    assert!(tally.places >= 200, "only {} refusals had a place", tally.places);
 }
 
 #[test]

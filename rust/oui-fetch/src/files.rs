@@ -23,18 +23,50 @@ pub fn load_ring(path: &Path) -> Result<Ring, Complaint> {
     Ring::parse(&text).map_err(|fault| format!("{}: {fault}", path.display()))
 }
 
-/// Where the stream comes from.
-pub struct Source(File);
+/// No section that is judged by its text has more bytes.
+const MOST_SECTION: usize = 8192;
+/// What is kept of the stream may grow by so many bytes before the older ones are dropped.
+const SPARE: usize = 65_536;
+
+/// Where the stream comes from. The last bytes that were read are kept, for a diagnosis: all of the last read, and before it as many as
+/// a section can have.
+pub struct Source {
+    file: File,
+    recent: Vec<u8>,
+    /// How many bytes were read.
+    count: u64,
+}
 
 impl Source {
+    fn new(file: File) -> Self {
+        Source { file, recent: Vec::new(), count: 0 }
+    }
+
     pub fn file(&self) -> &File {
-        &self.0
+        &self.file
+    }
+
+    /// Bytes of the stream that were read lately, by their offset.
+    pub fn recent(&self, start: u64, length: u64) -> Option<&[u8]> {
+        let first = self.count - self.recent.len() as u64;
+        let start = usize::try_from(start.checked_sub(first)?).ok()?;
+        self.recent.get(start..start.checked_add(usize::try_from(length).ok()?)?)
+    }
+
+    fn keep(&mut self, bytes: &[u8]) {
+        if self.recent.len() > MOST_SECTION + SPARE {
+            self.recent.drain(..self.recent.len() - MOST_SECTION);
+        }
+        self.recent.extend_from_slice(bytes);
+        self.count += bytes.len() as u64;
     }
 }
 
 impl Read for Source {
     fn read(&mut self, out: &mut [u8]) -> io::Result<usize> {
-        self.0.read(out)
+        let count = self.file.read(out)?;
+        self.keep(&out[..count]);
+        Ok(count)
     }
 }
 
@@ -53,7 +85,7 @@ pub fn open_stream(path: Option<&Path>) -> Result<Source, Complaint> {
         Some(path) => File::open(path),
         None => unbuffered(io::stdin().as_fd()),
     };
-    opened.map(Source).map_err(|error| format!("{}: {error}", stream_name(path)))
+    opened.map(Source::new).map_err(|error| format!("{}: {error}", stream_name(path)))
 }
 
 /// Where the body goes.

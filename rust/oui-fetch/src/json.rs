@@ -19,9 +19,17 @@ pub fn line(reader: &Reader, event: &Event) -> String {
         Event::Closed { total } => format!(r#"{{"event":"closed","total":{total}}}"#),
         Event::Refused(refusal) => {
             let meaning = quoted(refusal.meaning().as_bytes());
-            format!(r#"{{"event":"refused","number":{},"meaning":{meaning}}}"#, refusal.number())
+            let at = number_or_null(refusal.at());
+            let start = reader.refused_section().map(|section| section.start);
+            let offset = number_or_null(refusal.at().zip(start).map(|(at, start)| start + at));
+            let number = refusal.number();
+            format!(r#"{{"event":"refused","number":{number},"meaning":{meaning},"at":{at},"stream_offset":{offset}}}"#)
         }
     }
+}
+
+fn number_or_null(number: Option<u64>) -> String {
+    number.map_or("null".to_string(), |number| number.to_string())
 }
 
 /// Bytes as a JSON string, a character for each byte: a field's value need not be UTF-8.

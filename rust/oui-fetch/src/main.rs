@@ -3,14 +3,17 @@
 
 #![forbid(unsafe_code)]
 
+mod diagnosis;
+mod excerpt;
 mod files;
 mod json;
 mod options;
 mod progress;
 
-use files::Target;
+use diagnosis::Diagnosis;
+use files::{Source, Target};
 use options::{Asked, Options};
-use ouinet_reader::{run, Ending, Event, Question, Reader, RunError};
+use ouinet_reader::{run, Ending, Event, Question, Reader, Refusal, RunError, Section};
 use progress::Progress;
 use std::io::{self, IsTerminal, Write};
 use std::process::ExitCode;
@@ -46,18 +49,18 @@ fn main() -> ExitCode {
 /// Reads the stream to its end. The target is made last, so that it is left alone where another file is no good.
 fn fetch(options: &Options) -> Result<Ending, Complaint> {
     let ring = files::load_ring(&options.ring)?;
-    let source = files::open_stream(options.stream.as_deref())?;
+    let mut source = files::open_stream(options.stream.as_deref())?;
     let target = Target::open(options.body.as_deref(), source.file())?;
     let progress = Progress::new(!options.quiet && !writes_to_terminal(options));
-    let mut sitting = Sitting { json: options.json, target, progress, blocks: 0, bytes: 0 };
-    let ending = run(source, ring, verify, |reader, event| sitting.on(reader, event));
+    let mut sitting = Sitting { json: options.json, target, progress, blocks: 0, bytes: 0, refused: None };
+    let ending = run(&mut source, ring, verify, |reader, event| sitting.on(reader, event));
     sitting.progress.clear();
     let ending = ending.map_err(|error| match error {
         RunError::Read(error) => format!("{}: {error}", files::stream_name(options.stream.as_deref())),
         RunError::Stopped(complaint) => complaint,
     })?;
     if !options.quiet {
-        eprintln!("oui-fetch: {}", sitting.last_word(&ending));
+        eprintln!("oui-fetch: {}", sitting.last_word(&ending, &source));
     }
     Ok(ending)
 }
@@ -78,6 +81,8 @@ struct Sitting {
     progress: Progress,
     blocks: u64,
     bytes: u64,
+    /// The section that was refused for its text or length.
+    refused: Option<Section>,
 }
 
 impl Sitting {
@@ -89,6 +94,7 @@ impl Sitting {
             self.bytes += bytes.len() as u64;
             self.progress.show(self.bytes);
         }
+        self.refused = reader.refused_section();
         if self.json {
             let line = json::line(reader, event);
             writeln!(io::stdout(), "{line}").map_err(|error| format!("standard output: {error}"))?;
@@ -96,8 +102,8 @@ impl Sitting {
         Ok(())
     }
 
-    /// What is said at the end.
-    fn last_word(&self, ending: &Ending) -> String {
+    /// What is said at the end: a line, and after a wrong text lines that show it.
+    fn last_word(&self, ending: &Ending, source: &Source) -> String {
         let Sitting { blocks, bytes, .. } = self;
         match ending {
             Ending::Closed { .. } => format!("closed: {bytes} bytes in {blocks} blocks, each verified"),
@@ -106,8 +112,18 @@ impl Sitting {
                     0 => "nothing was verified".to_string(),
                     _ => format!("the {bytes} bytes before were verified"),
                 };
-                format!("refused {}: {refusal}; {before}", refusal.number())
+                let Diagnosis { words, shown } = self.diagnosis(*refusal, source);
+                let first = format!("refused {}: {words}; {before}", refusal.number());
+                [vec![first], shown].concat().join("\n")
             }
         }
+    }
+
+    fn diagnosis(&self, refusal: Refusal, source: &Source) -> Diagnosis {
+        let found = refusal.at().zip(self.refused.as_ref()).and_then(|(at, section)| {
+            let bytes = source.recent(section.start, section.length)?;
+            Some(diagnosis::of(section, bytes, at))
+        });
+        found.unwrap_or_else(|| Diagnosis { words: refusal.to_string(), shown: Vec::new() })
     }
 }

@@ -19,6 +19,8 @@ verified are never written: a stream that is cut off or changed on its way leave
 
 The last word is 'closed', or 'refused' with the number and the meaning of the refusal. 'closed' says that the stream ended as
 it should; version 4 does not mark the last block, so nobody can tell by the stream alone whether the show is whole.
+Where a text is wrong (refusals 3 and 6) the last word has its offset in the stream, counted from 0, and the line is shown under it
+with a mark at the byte. What is not printable ASCII is escaped there.
 
 Exit status: 0 closed, 1 refused, 2 a file or a word that is no good.
 
@@ -27,7 +29,9 @@ The lines of --json:
   {\"event\":\"head\",\"status\":200,\"uri\":\"https://example.com/hello\"}
   {\"event\":\"block\",\"offset\":0,\"length\":5}
   {\"event\":\"closed\",\"total\":12}
-  {\"event\":\"refused\",\"number\":11,\"meaning\":\"the stream stops before its end\"}";
+  {\"event\":\"refused\",\"number\":11,\"meaning\":\"the stream stops before its end\",\"at\":null,\"stream_offset\":null}
+With refusals 3 and 6, at is where the text of the head, chunk line, data end or trailer goes wrong, counted from its first byte, or
+its length as far as it was taken; stream_offset is where in the stream that is.";
 
 /// What the program is asked to do.
 pub enum Asked {

@@ -48,9 +48,7 @@ impl Show {
             return Err("--ts has at most 12 digits".to_string());
         }
         for (name, value) in [("--uri", &self.uri), ("--type", &self.content_type)] {
-            if value.trim_matches([' ', '\t']).len() != value.len() || !value.bytes().all(is_value_byte) {
-                return Err(format!("{name} is a field's value: no control characters, no blanks at its ends"));
-            }
+            check_value(name, value)?;
         }
         if self.uri.is_empty() {
             return Err("--uri must not be empty".to_string());
@@ -92,6 +90,18 @@ impl Show {
         }
         Ok(plan)
     }
+}
+
+/// Whether a text may stand in a field; if not, the error says where it goes wrong.
+fn check_value(name: &str, value: &str) -> Result<(), String> {
+    if let Some(place) = value.bytes().position(|byte| !is_value_byte(byte)) {
+        let byte = value.as_bytes()[place].escape_ascii();
+        return Err(format!("{name}: {byte} at offset {place} may not stand in a field's value"));
+    }
+    if value.trim_matches([' ', '\t']).len() != value.len() {
+        return Err(format!("{name}: a field's value has no blanks at its ends"));
+    }
+    Ok(())
 }
 
 fn now() -> u64 {

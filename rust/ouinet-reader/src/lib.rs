@@ -72,6 +72,20 @@
 //! # assert_eq!(piece_came(&mut reader, b"\r\n", &mut body, |_, _, _| true), Ok(true));
 //! ```
 //!
+//! # Where a text went wrong
+//!
+//! A refusal that is about a section says where its text goes wrong, and the reader where in the stream the section starts:
+//!
+//! ```
+//! use ouinet_reader::{Event, Reader, Refusal, Ring, SectionKind};
+//!
+//! let mut reader = Reader::new(Ring::empty());
+//! let fed = reader.feed(b"HTTP/1.1 200 OK\r\nDate : now\r\n\r\n").expect("in turn");
+//! assert_eq!(fed.event, Some(Event::Refused(Refusal::BadHead { at: 21 }))); // the space after `Date`
+//! let section = reader.refused_section().expect("a section");
+//! assert_eq!((section.kind, section.start, section.length), (SectionKind::Head, 0, 31));
+//! ```
+//!
 //! # What *closed* means
 //!
 //! That the framing ended well. It does not say that the body is complete: version 4 blocks do not mark the last one, so a
@@ -87,9 +101,11 @@ mod reader;
 mod refusal;
 mod ring;
 mod run;
+mod section;
 
 pub use event::{Event, Question};
 pub use reader::{Fed, NotDue, Reader};
 pub use refusal::Refusal;
 pub use ring::{Record, Ring, RingFault, MOST_RECORDS};
 pub use run::{run, Ending, RunError};
+pub use section::{Section, SectionKind};

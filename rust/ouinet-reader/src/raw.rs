@@ -10,6 +10,16 @@
 
 /// The least length of a state.
 pub const STATE_SIZE: usize = 336;
+/// Where a state has the number of its phase.
+pub(crate) const STATE_PHASE: usize = 0;
+/// The phases in which a section is under way that is judged by its text.
+pub(crate) const PHASE_HEAD: u64 = 0;
+pub(crate) const PHASE_FIRST_LINE: u64 = 2;
+pub(crate) const PHASE_DATA_END: u64 = 4;
+pub(crate) const PHASE_NEXT_LINE: u64 = 5;
+pub(crate) const PHASE_TRAILER: u64 = 7;
+/// Where a state has how many bytes of the section under way have come.
+pub(crate) const STATE_COUNT: usize = 8;
 /// The least length of a head buffer.
 pub const HEAD_SIZE: usize = 8192;
 /// The least length of a block buffer.
@@ -33,7 +43,7 @@ pub const HEAD: u8 = 2;
 pub const BLOCK: u8 = 3;
 /// The word of a closed stream; its number is the body's length.
 pub const CLOSED: u8 = 4;
-/// The word of a refusal; its number is the refusal's.
+/// The word of a refusal; its numbers are the refusal's and, with 3 and 6, where the section's text goes wrong.
 pub const REFUSED: u8 = 5;
 /// What a call returns where the state or the result is too short.
 pub const SHORT: u8 = 255;
@@ -217,13 +227,16 @@ pub struct Outcome {
 impl Outcome {
     /// Reads the four numbers.
     pub fn of(result: &[u8; RESULT_SIZE]) -> Self {
-        let number = |place: usize| {
-            let mut bytes = [0; 8];
-            bytes.copy_from_slice(&result[place..place + 8]);
-            u64::from_le_bytes(bytes)
-        };
+        let number = |place| number(result, place);
         Outcome { word: number(0), taken: number(8), first: number(16), second: number(24) }
     }
+}
+
+/// The number at a place of a state or a result, which must have eight bytes there.
+pub(crate) fn number(bytes: &[u8], place: usize) -> u64 {
+    let mut eight = [0; 8];
+    eight.copy_from_slice(&bytes[place..place + 8]);
+    u64::from_le_bytes(eight)
 }
 
 /// The signature in a result: that of a question, or zeros.

@@ -4,6 +4,7 @@ use crate::event::{Event, Question};
 use crate::raw::{self, Lent, Outcome};
 use crate::refusal::Refusal;
 use crate::ring::Ring;
+use crate::section::Section;
 use std::fmt;
 
 /// A call that came when it has no place: a feed or an end while a question is open, an answer while none is, or any call
@@ -37,6 +38,8 @@ pub struct Reader {
     head: Box<[u8]>,
     block: Box<[u8]>,
     question: Box<[u8]>,
+    taken: u64,
+    refused: Option<Section>,
 }
 
 impl Reader {
@@ -52,16 +55,22 @@ impl Reader {
             head: vec![0; raw::HEAD_SIZE].into(),
             block: vec![0; raw::BLOCK_SIZE].into(),
             question: vec![0; raw::QUESTION_SIZE].into(),
+            taken: 0,
+            refused: None,
         }
     }
 
     /// Feeds bytes of the stream, in a piece of any length. They are taken up to the first event, or all.
     pub fn feed(&mut self, piece: &[u8]) -> Result<Fed<'_>, NotDue> {
+        let before = self.state;
         let (mut lent, ring) = self.lend();
         raw::feed(&mut lent, ring.as_bytes(), piece);
-        let event = self.event()?;
         let taken = Outcome::of(&self.result).taken as usize;
-        Ok(Fed { taken, event })
+        self.taken += taken as u64;
+        if let Ok(Some(Event::Refused(Refusal::BadHead { .. } | Refusal::BadFrame { .. }))) = self.event() {
+            self.refused = self.locate(before, &piece[..taken]);
+        }
+        Ok(Fed { taken, event: self.event()? })
     }
 
     /// Answers the open question: whether the signature is good. A yes gives [`Event::HeadAccepted`] or [`Event::Block`], a
@@ -91,9 +100,31 @@ impl Reader {
         value
     }
 
+    /// How many bytes of the stream were taken, in all feeds.
+    pub fn taken(&self) -> u64 {
+        self.taken
+    }
+
+    /// The section whose text or length was refused, after [`Refusal::BadHead`] or [`Refusal::BadFrame`]; else nothing. The place
+    /// that the refusal carries is counted from its first byte.
+    pub fn refused_section(&self) -> Option<Section> {
+        self.refused
+    }
+
     /// The key ring that the reader was made with.
     pub fn ring(&self) -> &Ring {
         &self.ring
+    }
+
+    /// The section that the last byte taken belongs to. The call is made once more without that byte, by a copy of the reader in
+    /// the state before it: the copy's state then says which section is under way and how many bytes of it have come. What a
+    /// refusal has set to zero in the buffers does not matter for that.
+    fn locate(&self, before: [u8; raw::STATE_SIZE], taken: &[u8]) -> Option<Section> {
+        let (_, rest) = taken.split_last()?;
+        let mut again = Reader { state: before, ..self.clone() };
+        let (mut lent, ring) = again.lend();
+        raw::feed(&mut lent, ring.as_bytes(), rest);
+        Section::under_way(&again.state, self.taken)
     }
 
     /// The buffers for a call, and the ring.
@@ -119,7 +150,7 @@ impl Reader {
             raw::CLOSED => Some(Event::Closed { total: first }),
             _ if first == 1 => return Err(NotDue),
             _ => {
-                let refusal = Refusal::from_number(first);
+                let refusal = Refusal::from_numbers(first, second);
                 Some(Event::Refused(
                     refusal.expect("the linked library is another one than this crate was written for"),
                 ))

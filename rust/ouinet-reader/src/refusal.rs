@@ -4,65 +4,95 @@ use std::fmt;
 
 /// Why a stream is refused, once and for all. The numbers are those of the specification; its 1 and 2 answer calls and not
 /// streams: 1 is [`NotDue`](crate::NotDue), and 2, too short a buffer, cannot happen with this crate's own buffers.
+///
+/// Refusals 3 and 6 say where: where the text of a section is at fault, `at` is the length of the longest beginning of
+/// the section that some good text has too, however long as a whole and with its line ends, so the byte at that place is
+/// the first one that cannot stand there. Where the cause is another one, `at` is the length of the section as far as
+/// it was taken, the deciding byte included: no end within the limit, too many fields, or two of one name. It is counted from the section's first byte;
+/// [`Reader::refused_section`](crate::Reader::refused_section) tells where in the stream that is.
 #[derive(Debug, Clone, Copy, PartialEq, Eq, Hash)]
-#[repr(u8)]
 pub enum Refusal {
     /// 3: the head's text is wrong or too long, it has over 64 fields, or a name doubled.
-    BadHead = 3,
+    BadHead {
+        /// Where its text goes wrong, or the length taken.
+        at: u64,
+    },
     /// 4: the head breaks one of the format's rules.
-    HeadRule = 4,
+    HeadRule,
     /// 5: the version is there and is not 4.
-    BadVersion = 5,
+    BadVersion,
     /// 6: a chunk line, the end of a chunk's data or the trailer has a wrong text or is too long.
-    BadFrame = 6,
+    BadFrame {
+        /// Where that section's text goes wrong, or the length taken.
+        at: u64,
+    },
     /// 7: a chunk's size is against the rule for blocks.
-    BadSize = 7,
+    BadSize,
     /// 8: a block's signature is absent where it is due, or present where it is not.
-    BadOuisig = 8,
+    BadOuisig,
     /// 9: the body would pass 4,294,967,296 bytes.
-    TooLong = 9,
+    TooLong,
     /// 10: the answer to a question was no.
-    BadSignature = 10,
+    BadSignature,
     /// 11: the end was told in an unfinished stream.
-    Unfinished = 11,
+    Unfinished,
     /// 12: the key is not trusted at the stream's time.
-    Untrusted = 12,
+    Untrusted,
 }
-
-/// All of them, in the order of their numbers from 3 on.
-const ALL: [Refusal; 10] = [
-    Refusal::BadHead,
-    Refusal::HeadRule,
-    Refusal::BadVersion,
-    Refusal::BadFrame,
-    Refusal::BadSize,
-    Refusal::BadOuisig,
-    Refusal::TooLong,
-    Refusal::BadSignature,
-    Refusal::Unfinished,
-    Refusal::Untrusted,
-];
 
 impl Refusal {
     /// The specification's number, from 3 to 12.
     pub fn number(self) -> u8 {
-        self as u8
+        match self {
+            Refusal::BadHead { .. } => 3,
+            Refusal::HeadRule => 4,
+            Refusal::BadVersion => 5,
+            Refusal::BadFrame { .. } => 6,
+            Refusal::BadSize => 7,
+            Refusal::BadOuisig => 8,
+            Refusal::TooLong => 9,
+            Refusal::BadSignature => 10,
+            Refusal::Unfinished => 11,
+            Refusal::Untrusted => 12,
+        }
     }
 
-    /// The refusal with that number.
-    pub fn from_number(number: u64) -> Option<Refusal> {
-        ALL.into_iter().find(|refusal| u64::from(refusal.number()) == number)
+    /// Where the section's text goes wrong, or the length taken; the refusals other than 3 and 6 have no such place.
+    pub fn at(self) -> Option<u64> {
+        match self {
+            Refusal::BadHead { at } | Refusal::BadFrame { at } => Some(at),
+            _ => None,
+        }
+    }
+
+    /// The refusal with these two numbers of a result: its own, and the place, which is 0 where there is none.
+    pub fn from_numbers(number: u64, place: u64) -> Option<Refusal> {
+        Some(match (number, place) {
+            (3, at) => Refusal::BadHead { at },
+            (4, 0) => Refusal::HeadRule,
+            (5, 0) => Refusal::BadVersion,
+            (6, at) => Refusal::BadFrame { at },
+            (7, 0) => Refusal::BadSize,
+            (8, 0) => Refusal::BadOuisig,
+            (9, 0) => Refusal::TooLong,
+            (10, 0) => Refusal::BadSignature,
+            (11, 0) => Refusal::Unfinished,
+            (12, 0) => Refusal::Untrusted,
+            _ => return None,
+        })
     }
 
     /// What it means, in words for the person who waits for the stream.
     pub fn meaning(self) -> &'static str {
         match self {
-            Refusal::BadHead => {
+            Refusal::BadHead { .. } => {
                 "the head is not well formed: wrong text, no end within 8,192 bytes, over 64 fields, or a field that comes twice"
             }
             Refusal::HeadRule => "the head breaks a rule of signed streams: a field is missing or has a wrong value",
             Refusal::BadVersion => "the stream is of another version than 4",
-            Refusal::BadFrame => "the body's framing is broken: a chunk line, the end of a chunk or the trailer is wrong",
+            Refusal::BadFrame { .. } => {
+                "the body's framing is broken: a chunk line, the end of a chunk or the trailer is wrong"
+            }
             Refusal::BadSize => "a chunk has a size that the rule for blocks does not allow",
             Refusal::BadOuisig => "a block's signature is missing, or one stands where none is due",
             Refusal::TooLong => "the body is longer than 4,294,967,296 bytes",
@@ -75,7 +105,10 @@ impl Refusal {
 
 impl fmt::Display for Refusal {
     fn fmt(&self, out: &mut fmt::Formatter) -> fmt::Result {
-        out.write_str(self.meaning())
+        match self.at() {
+            Some(at) => write!(out, "{}; at byte {at} of it", self.meaning()),
+            None => out.write_str(self.meaning()),
+        }
     }
 }
 
@@ -87,12 +120,26 @@ mod tests {
 
     #[test]
     fn numbers_and_refusals_fit() {
-        for (refusal, number) in ALL.into_iter().zip(3..) {
-            assert_eq!(refusal.number(), number);
-            assert_eq!(Refusal::from_number(number.into()), Some(refusal));
+        for number in 3..=12 {
+            for place in [0, 1, 8192, u64::MAX] {
+                let has_place = number == 3 || number == 6;
+                match Refusal::from_numbers(number, place) {
+                    Some(refusal) => {
+                        assert_eq!(u64::from(refusal.number()), number);
+                        assert_eq!(refusal.at(), has_place.then_some(place));
+                    }
+                    None => assert!(!has_place && place != 0, "{number}, {place}"),
+                }
+            }
         }
         for none in [0, 1, 2, 13, 255, 259, u64::MAX] {
-            assert_eq!(Refusal::from_number(none), None);
+            assert_eq!(Refusal::from_numbers(none, 0), None);
         }
+    }
+
+    #[test]
+    fn words() {
+        assert_eq!(Refusal::Unfinished.to_string(), "the stream stops before its end");
+        assert!(Refusal::BadFrame { at: 17 }.to_string().ends_with("; at byte 17 of it"));
     }
 }

@@ -52,8 +52,8 @@ impl<E: std::error::Error + 'static> std::error::Error for RunError<E> {
 /// Reads a stream to its last event, or to the end of the source.
 ///
 /// `verify` answers each question: whether the signature over the message belongs to the key. `on` is called for every
-/// event in order, questions included (each before `verify`), with the reader beside it for [`Reader::value`]. An error of
-/// `on` ends the run. No byte behind the last event is looked at, though the source may have given some.
+/// event in order, questions included (each before `verify`), with the reader beside it for [`Reader::value`] and
+/// [`Reader::refused_section`]. An error of `on` ends the run. No byte behind the last event is looked at, though the source may have given some.
 pub fn run<E>(
     mut source: impl Read,
     ring: Ring,

@@ -18,7 +18,10 @@ fn line(event: &Event) -> String {
         Event::HeadAccepted { status } => format!("head {status}\n"),
         Event::Block { offset, bytes } => format!("block {offset} {}\n", bytes.len()),
         Event::Closed { total } => format!("closed {total}\n"),
-        Event::Refused(refusal) => format!("refused {}\n", refusal.number()),
+        Event::Refused(refusal) => match refusal.at() {
+            Some(at) => format!("refused {} at {at}\n", refusal.number()),
+            None => format!("refused {}\n", refusal.number()),
+        },
     }
 }
 

@@ -46,10 +46,10 @@ fn words() {
 #[test]
 fn refusals() {
     for (name, refusal) in [
-        ("BAD_HEAD", Refusal::BadHead),
+        ("BAD_HEAD", Refusal::BadHead { at: 0 }),
         ("HEAD_RULE", Refusal::HeadRule),
         ("BAD_VERSION", Refusal::BadVersion),
-        ("BAD_FRAME", Refusal::BadFrame),
+        ("BAD_FRAME", Refusal::BadFrame { at: 0 }),
         ("BAD_SIZE", Refusal::BadSize),
         ("BAD_OUISIG", Refusal::BadOuisig),
         ("TOO_LONG", Refusal::TooLong),

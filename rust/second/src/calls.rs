@@ -4,7 +4,7 @@
 //! answers given, whether the end was told and the ring that judged the head; each call does the
 //! plain reading anew. That is slow for long streams in tiny pieces and plain to follow.
 
-use crate::event::{Event, Question};
+use crate::event::{Event, Question, Refusal};
 use crate::head::Head;
 use crate::plain::{self, Kind, Placed, Reading};
 use crate::ring::{Record, MOST_RECORDS};
@@ -45,9 +45,7 @@ pub enum Word {
         total: u64,
     },
     /// 1 and 2 are no events, the others are final.
-    Refused {
-        number: u8,
-    },
+    Refused(Refusal),
 }
 
 impl From<Event> for Word {
@@ -57,7 +55,7 @@ impl From<Event> for Word {
             Event::HeadAccepted { status } => Word::HeadAccepted { status },
             Event::Block { offset, length } => Word::Block { offset, length },
             Event::Closed { total } => Word::Closed { total },
-            Event::Refused { number } => Word::Refused { number },
+            Event::Refused(refusal) => Word::Refused(refusal),
         }
     }
 }
@@ -71,7 +69,7 @@ pub struct Outcome {
 
 impl Outcome {
     fn refused(number: u8) -> Self {
-        Outcome { word: Word::Refused { number }, taken: 0 }
+        Outcome { word: Word::Refused(Refusal::plain(number)), taken: 0 }
     }
 }
 
@@ -217,7 +215,7 @@ impl Calls {
                 overlay(&mut now.question, &question.message);
             }
         }
-        if matches!(reading.events.last(), Some(Placed { event: Event::Refused { .. }, .. })) {
+        if matches!(reading.events.last(), Some(Placed { event: Event::Refused(_), .. })) {
             now.block[..pending(&reading)].fill(0);
         }
         now

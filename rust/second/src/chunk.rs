@@ -2,6 +2,8 @@
 //! (paper 01, "Blocks", its first three points).
 
 use crate::base64;
+use crate::event::Refusal;
+use crate::place::longest_beginning;
 
 /// So many bytes without the line's end are refused.
 pub const LIMIT: usize = 128;
@@ -33,6 +35,25 @@ pub fn parse(line: &[u8]) -> Option<ChunkLine> {
     Some(ChunkLine { size, signature })
 }
 
+/// Whether these bytes are a line with its CR LF and have a good text.
+pub fn is_good(line: &[u8]) -> bool {
+    line.strip_suffix(END).is_some_and(|text| parse(text).is_some())
+}
+
+/// Where a whole line, CR LF included, went wrong.
+fn place(line: &[u8]) -> usize {
+    let sample = [b"0;ouisig=", &b"A".repeat(86)[..], b"==", END].concat();
+    longest_beginning(line, &sample, is_good)
+}
+
+/// Judges the two bytes after a chunk's data.
+pub fn judge_data_end(bytes: &[u8]) -> Result<(), Refusal> {
+    if bytes == END {
+        return Ok(());
+    }
+    Err(Refusal::frame(longest_beginning(bytes, END, |bytes| bytes == END)))
+}
+
 fn hex(digit: u8) -> u32 {
     let value = match digit {
         b'0'..=b'9' => digit - b'0',
@@ -53,20 +74,18 @@ pub struct Before {
     pub total: u64,
 }
 
-/// Judges a whole line, CR LF included, at its place. An error is the number of the refusal, in
-/// the order 6, 8, 7, 9 (end of "The first line carries").
-pub fn judge(line: &[u8], before: &Before) -> Result<ChunkLine, u8> {
-    let text = line.strip_suffix(END).ok_or(6)?;
-    let parsed = parse(text).ok_or(6)?;
+/// Judges a whole line, CR LF included, at its place, in the order 6, 8, 7, 9 (end of "The first line carries").
+pub fn judge(line: &[u8], before: &Before) -> Result<ChunkLine, Refusal> {
+    let parsed = line.strip_suffix(END).and_then(parse).ok_or_else(|| Refusal::frame(place(line)))?;
     if parsed.signature.is_some() != before.block.is_some() {
-        return Err(8);
+        return Err(Refusal::plain(8));
     }
     let after_short = before.block.is_some_and(|length| length < before.block_size);
     if parsed.size > before.block_size || (parsed.size > 0 && after_short) {
-        return Err(7);
+        return Err(Refusal::plain(7));
     }
     if before.total + u64::from(parsed.size) > MOST_BODY {
-        return Err(9);
+        return Err(Refusal::plain(9));
     }
     Ok(parsed)
 }
@@ -99,13 +118,15 @@ mod tests {
         let full = Before { block_size: 5, block: Some(5), total: 5 };
         let short = Before { block_size: 5, block: Some(4), total: 4 };
         let long = Before { block_size: 5, block: Some(5), total: MOST_BODY - 4 };
-        assert_eq!(judge(b"6 \r\n", &full), Err(6));
-        assert_eq!(judge(b"6\r\n", &full), Err(8));
-        assert_eq!(judge(&with_signature("6"), &first), Err(8));
-        assert_eq!(judge(&with_signature("6"), &full), Err(7));
-        assert_eq!(judge(&with_signature("1"), &short), Err(7));
-        assert_eq!(judge(&with_signature("6"), &long), Err(7));
-        assert_eq!(judge(&with_signature("5"), &long), Err(9));
+        let refused =
+            |line: &[u8], before| judge(line, before).map_err(|refusal| (refusal.number, refusal.at)).map(|_| ());
+        assert_eq!(refused(b"6 \r\n", &full), Err((6, Some(1))));
+        assert_eq!(refused(b"6\r\n", &full), Err((8, None)));
+        assert_eq!(refused(&with_signature("6"), &first), Err((8, None)));
+        assert_eq!(refused(&with_signature("6"), &full), Err((7, None)));
+        assert_eq!(refused(&with_signature("1"), &short), Err((7, None)));
+        assert_eq!(refused(&with_signature("6"), &long), Err((7, None)));
+        assert_eq!(refused(&with_signature("5"), &long), Err((9, None)));
         assert!(judge(&with_signature("4"), &long).is_ok());
         assert!(judge(&with_signature("0"), &short).is_ok());
         assert!(judge(b"4\r\n", &first).is_ok());

@@ -1,4 +1,4 @@
-//! What a reading lists, and how the program writes it.
+//! What a reading lists, and how the program writes it, places included.
 
 use std::fmt;
 
@@ -17,13 +17,48 @@ pub enum Event {
     HeadAccepted { status: u16 },
     Block { offset: u64, length: u32 },
     Closed { total: u64 },
-    Refused { number: u8 },
+    Refused(Refusal),
+}
+
+/// Why a stream or a call is refused: the number and, with 3 and 6 alone, where the text went wrong, counted from the first
+/// byte of the head, line, data end or trailer (request #106).
+#[derive(Debug, Clone, Copy, PartialEq, Eq)]
+pub struct Refusal {
+    pub number: u8,
+    pub at: Option<usize>,
+}
+
+impl Refusal {
+    /// A refusal that has no place.
+    pub fn plain(number: u8) -> Self {
+        Refusal { number, at: None }
+    }
+
+    /// The head is refused at this place.
+    pub fn head(at: usize) -> Self {
+        Refusal { number: 3, at: Some(at) }
+    }
+
+    /// A line, a data end or the trailer is refused at this place.
+    pub fn frame(at: usize) -> Self {
+        Refusal { number: 6, at: Some(at) }
+    }
+}
+
+/// The number, and the place where there is one.
+impl fmt::Display for Refusal {
+    fn fmt(&self, out: &mut fmt::Formatter) -> fmt::Result {
+        match self.at {
+            Some(at) => write!(out, "refused {} at {at}", self.number),
+            None => write!(out, "refused {}", self.number),
+        }
+    }
 }
 
 impl Event {
     /// Nothing comes after a closing or a refusal.
     pub fn is_final(&self) -> bool {
-        matches!(self, Event::Closed { .. } | Event::Refused { .. })
+        matches!(self, Event::Closed { .. } | Event::Refused(_))
     }
 }
 
@@ -35,7 +70,7 @@ impl fmt::Display for Event {
             Event::HeadAccepted { status } => write!(out, "head {status}"),
             Event::Block { offset, length } => write!(out, "block {offset} {length}"),
             Event::Closed { total } => write!(out, "closed {total}"),
-            Event::Refused { number } => write!(out, "refused {number}"),
+            Event::Refused(refusal) => refusal.fmt(out),
         }
     }
 }

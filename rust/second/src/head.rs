@@ -2,8 +2,11 @@
 //! The rules are those of paper 01, "The head"; points of its list are cited by their first words.
 
 use crate::base64;
+use crate::event::Refusal;
+use crate::place::longest_beginning;
 use crate::ring::{self, Record};
 use crate::text;
+use crate::trailer;
 use std::ops::Range;
 
 /// So many bytes without the head's end are refused.
@@ -36,19 +39,19 @@ impl Head {
     }
 }
 
-/// Judges a whole head, CR LF CR LF included. An error is the number of the refusal: first all
-/// that is 3, then 4 and 5 in the order of the paper's list, then 12 (opening words of the section).
-pub fn judge(bytes: &[u8], ring: &[Record]) -> Result<Head, u8> {
-    let text = HeadText::parse(bytes).ok_or(3)?;
+/// Judges a whole head, CR LF CR LF included: first all that is 3, then 4 and 5 in the order of the paper's list, then 12
+/// (opening words of the section).
+pub fn judge(bytes: &[u8], ring: &[Record]) -> Result<Head, Refusal> {
+    let text = HeadText::judge(bytes)?;
     match text.value(b"X-Ouinet-Version") {
-        None => return Err(4),
+        None => return Err(Refusal::plain(4)),
         Some(b"4") => (),
-        Some(_) => return Err(5),
+        Some(_) => return Err(Refusal::plain(5)),
     }
-    let rules = Rules::check(&text).ok_or(4)?;
-    let record = ring::look_up(ring, &rules.sig0.key, rules.injection.ts).ok_or(12)?;
+    let rules = Rules::check(&text).ok_or(Refusal::plain(4))?;
+    let record = ring::look_up(ring, &rules.sig0.key, rules.injection.ts).ok_or(Refusal::plain(12))?;
     if rules.bsigs.key != rules.sig0.key {
-        return Err(12);
+        return Err(Refusal::plain(12));
     }
     Ok(Head {
         status: text.status(),
@@ -72,15 +75,26 @@ struct Field {
     value: Range<usize>,
 }
 
-/// A head whose text is good: everything that is refused with 3 is behind it ("Status line").
+/// A head whose text is good ("Status line").
 struct HeadText<'a> {
     bytes: &'a [u8],
     fields: Vec<Field>,
 }
 
 impl<'a> HeadText<'a> {
+    /// Everything that is refused with 3: the text, then the count, then a doubled name. With the last two the place is the
+    /// length taken (request #106: "For the other causes").
+    fn judge(bytes: &'a [u8]) -> Result<Self, Refusal> {
+        let head = HeadText::parse(bytes).ok_or_else(|| Refusal::head(place(bytes)))?;
+        if head.fields.len() > MOST_FIELDS || head.has_doubled_name() {
+            return Err(Refusal::head(bytes.len()));
+        }
+        Ok(head)
+    }
+
+    /// A status line and field lines up to the first CR LF CR LF, however many.
     fn parse(bytes: &'a [u8]) -> Option<Self> {
-        let without_empty_line = &bytes[..bytes.len().checked_sub(2)?];
+        let without_empty_line = bytes.strip_suffix(b"\r\n").filter(|_| bytes.ends_with(END))?;
         let lines = text::lines(without_empty_line);
         let (status_line, field_lines) = lines.split_first()?;
         if !is_status_line(&bytes[status_line.clone()]) {
@@ -94,11 +108,7 @@ impl<'a> HeadText<'a> {
                 value: line.start + parsed.value.start..line.start + parsed.value.end,
             });
         }
-        let head = HeadText { bytes, fields };
-        if head.fields.len() > MOST_FIELDS || head.has_doubled_name() {
-            return None;
-        }
-        Some(head)
+        Some(HeadText { bytes, fields })
     }
 
     fn has_doubled_name(&self) -> bool {
@@ -129,6 +139,23 @@ impl<'a> HeadText<'a> {
 
     fn status(&self) -> u16 {
         self.status_digits().iter().fold(0, |number, &digit| number * 10 + u16::from(digit - b'0'))
+    }
+}
+
+/// Whether these bytes are one head and have a good text. The fields are neither counted nor compared.
+pub fn is_good(bytes: &[u8]) -> bool {
+    HeadText::parse(bytes).is_some()
+}
+
+/// Where a whole head, CR LF CR LF included, went wrong: in its status line, or behind it.
+fn place(bytes: &[u8]) -> usize {
+    let status_line = text::find(bytes, b"\r\n").map_or(bytes.len(), |end| end + 2);
+    let (front, fields) = bytes.split_at(status_line);
+    let in_front = longest_beginning(front, b"HTTP/1.1 000 \r\n\r\n", is_good);
+    if in_front < front.len() {
+        in_front
+    } else {
+        front.len() + trailer::place(fields)
     }
 }
 

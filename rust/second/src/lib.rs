@@ -1,4 +1,4 @@
-//! A second reader for version 4 signature streams, written from paper 01 alone.
+//! A second reader for version 4 signature streams, written from paper 01 and request #106 alone.
 //!
 //! It exists to be compared with the verified reader, so it shares nothing with it. The modules:
 //!
@@ -6,6 +6,7 @@
 //! * `text`: characters, trimming, field lines and numbers;
 //! * `ring`: the key ring;
 //! * `head`, `chunk`, `trailer`: one judge for each kind of text in a stream;
+//! * `place`: where a text went wrong, found by trying completions;
 //! * `message`: what a block's question asks about;
 //! * `event`: what a reading lists;
 //! * `plain`: the plain reading of a whole stream in memory;
@@ -22,6 +23,7 @@ pub mod event;
 pub mod files;
 pub mod head;
 pub mod message;
+pub mod place;
 pub mod plain;
 pub mod reader;
 pub mod ring;

@@ -1,9 +1,10 @@
-//! `ouiread-second STREAM RING ANSWERS [CUTS [BODY]]`: reads a stream with a key ring and a list of
-//! answers and writes one line for each event. See `second` for the reading itself.
+//! `ouiread-second STREAM RING ANSWERS [CUTS [BODY]] [--where]`: reads a stream with a key ring and a list of
+//! answers and writes one line for each event. With `--where` the line of a refusal 3 or 6 says where the text went wrong. See
+//! `second` for the reading itself.
 
 #![forbid(unsafe_code)]
 
-use second::event::Event;
+use second::event::{Event, Refusal};
 use second::files::{self, AnswerFault, Answers, Fault};
 use second::reader::Reader;
 use second::ring::Record;
@@ -28,9 +29,14 @@ fn main() -> ExitCode {
     }
 }
 
-fn run(paths: &[&Path]) -> Result<(), Complaint> {
-    if !(3..=5).contains(&paths.len()) {
-        return Err("usage: ouiread-second STREAM RING ANSWERS [CUTS [BODY]]".to_string());
+fn run(words: &[&Path]) -> Result<(), Complaint> {
+    let (paths, places) = match words.split_last() {
+        Some((last, before)) if last.as_os_str() == "--where" => (before, true),
+        _ => (words, false),
+    };
+    let is_option = |path: &&Path| path.as_os_str().as_encoded_bytes().starts_with(b"--");
+    if !(3..=5).contains(&paths.len()) || paths.iter().any(is_option) {
+        return Err("usage: ouiread-second STREAM RING ANSWERS [CUTS [BODY]] [--where]".to_string());
     }
     let ring = load_ring(paths[1])?;
     let answers = open_answers(paths[2])?;
@@ -51,6 +57,7 @@ fn run(paths: &[&Path]) -> Result<(), Complaint> {
         body,
         body_path: paths.get(4).copied().unwrap_or(Path::new("")),
         reader: Reader::new(ring),
+        places,
     }
     .read_all(&cuts)
 }
@@ -121,6 +128,8 @@ struct Sitting<'a> {
     body: Option<File>,
     body_path: &'a Path,
     reader: Reader,
+    /// Whether a refusal's place is written.
+    places: bool,
 }
 
 impl Sitting<'_> {
@@ -175,7 +184,11 @@ impl Sitting<'_> {
         if let (Event::Block { .. }, Some(file)) = (event, &mut self.body) {
             file.write_all(self.reader.block()).map_err(|error| failed(self.body_path, &error))?;
         }
-        writeln!(io::stdout(), "{event}").map_err(|error| failed(Path::new("standard output"), &error))
+        let line = match event {
+            Event::Refused(refusal) if !self.places => Refusal::plain(refusal.number).to_string(),
+            _ => event.to_string(),
+        };
+        writeln!(io::stdout(), "{line}").map_err(|error| failed(Path::new("standard output"), &error))
     }
 }
 

@@ -3,7 +3,7 @@
 //! holds the whole stream in memory and knows nothing of pieces; `calls` is built on it.
 
 use crate::chunk::{self, Before};
-use crate::event::{Event, Question};
+use crate::event::{Event, Question, Refusal};
 use crate::head::{self, Head};
 use crate::message;
 use crate::ring::Record;
@@ -62,9 +62,9 @@ pub fn read(bytes: &[u8], ring: &[Record], answers: &[bool], told: bool) -> Read
     };
     match walk.stream(ring) {
         Ok(total) => walk.list(Event::Closed { total }),
-        Err(Stop::Refused(number)) => walk.list(Event::Refused { number }),
+        Err(Stop::Refused(refusal)) => walk.list(Event::Refused(refusal)),
         // Where bytes ran out, all of them were gone over.
-        Err(Stop::RanOut) if told => walk.list(Event::Refused { number: 11 }),
+        Err(Stop::RanOut) if told => walk.list(Event::Refused(Refusal::plain(11))),
         Err(Stop::RanOut | Stop::Unanswered) => (),
     }
     walk.reading
@@ -72,7 +72,7 @@ pub fn read(bytes: &[u8], ring: &[Record], answers: &[bool], told: bool) -> Read
 
 /// Why a reading does not go on.
 enum Stop {
-    Refused(u8),
+    Refused(Refusal),
     Unanswered,
     RanOut,
 }
@@ -99,7 +99,7 @@ impl<'a> Walk<'a> {
         self.list(Event::Question(question));
         match self.answers.next() {
             Some(true) => Ok(()),
-            Some(false) => Err(Stop::Refused(10)),
+            Some(false) => Err(Stop::Refused(Refusal::plain(10))),
             None => Err(Stop::Unanswered),
         }
     }
@@ -116,16 +116,22 @@ impl<'a> Walk<'a> {
         Ok(&self.bytes[start..self.place])
     }
 
-    /// A section that runs to the first such end, refused with this number if as many bytes as
-    /// the limit have come without it.
-    fn section_to(&mut self, kind: Kind, end: &[u8], limit: usize, number: u8) -> Result<&'a [u8], Stop> {
+    /// A section that runs to the first such end, refused if as many bytes as the limit have come without it: that goes
+    /// before its text.
+    fn section_to(
+        &mut self,
+        kind: Kind,
+        end: &[u8],
+        limit: usize,
+        refusal: fn(usize) -> Refusal,
+    ) -> Result<&'a [u8], Stop> {
         let rest = &self.bytes[self.place..];
         let reach = rest.len().min(limit);
         match text::find(&rest[..reach], end) {
             Some(start) => self.section(kind, start + end.len()),
             None => {
                 self.section(kind, limit)?;
-                Err(Stop::Refused(number))
+                Err(Stop::Refused(refusal(limit)))
             }
         }
     }
@@ -135,12 +141,12 @@ impl<'a> Walk<'a> {
         if self.bytes[self.place..].starts_with(trailer::EMPTY) {
             return self.section(Kind::Trailer, trailer::EMPTY.len());
         }
-        self.section_to(Kind::Trailer, trailer::END, trailer::LIMIT, 6)
+        self.section_to(Kind::Trailer, trailer::END, trailer::LIMIT, Refusal::frame)
     }
 
     /// The whole stream: head, body, trailer. Gives the body's total.
     fn stream(&mut self, ring: &[Record]) -> Result<u64, Stop> {
-        let bytes = self.section_to(Kind::Head, head::END, head::LIMIT, 3)?;
+        let bytes = self.section_to(Kind::Head, head::END, head::LIMIT, Refusal::head)?;
         let head = head::judge(bytes, ring).map_err(Stop::Refused)?;
         self.ask(Question { message: head.signing_string.clone(), signature: head.signature, record: head.record })?;
         self.list(Event::HeadAccepted { status: head.status });
@@ -159,7 +165,7 @@ impl<'a> Walk<'a> {
         let mut hash: Option<[u8; 64]> = None;
         let mut block: Option<Range<usize>> = None;
         loop {
-            let line = self.section_to(Kind::Line, chunk::END, chunk::LIMIT, 6)?;
+            let line = self.section_to(Kind::Line, chunk::END, chunk::LIMIT, Refusal::frame)?;
             let before =
                 Before { block_size: head.block_size, block: block.as_ref().map(|range| range.len() as u32), total };
             let line = chunk::judge(line, &before).map_err(Stop::Refused)?;
@@ -183,9 +189,7 @@ impl<'a> Walk<'a> {
             self.section(Kind::Data, line.size as usize)?;
             block = Some(start..self.place);
             total += u64::from(line.size);
-            if self.section(Kind::DataEnd, 2)? != chunk::END {
-                return Err(Stop::Refused(6));
-            }
+            chunk::judge_data_end(self.section(Kind::DataEnd, 2)?).map_err(Stop::Refused)?;
         }
     }
 }

@@ -2,7 +2,7 @@
 //! goes"). It keeps at most one head, one block, one chunk line and one trailer.
 
 use crate::chunk::{self, Before, ChunkLine};
-use crate::event::{Event, Question};
+use crate::event::{Event, Question, Refusal};
 use crate::head::{self, Head};
 use crate::message;
 use crate::ring::Record;
@@ -122,7 +122,7 @@ impl Reader {
             return Err(WrongTime);
         }
         if !yes {
-            return Ok(self.refuse(10));
+            return Ok(self.refuse(Refusal::plain(10)));
         }
         match std::mem::replace(&mut self.stage, Stage::Over) {
             Stage::HeadAsked(head) => {
@@ -150,7 +150,7 @@ impl Reader {
         if self.is_asking() || self.is_over() {
             return Err(WrongTime);
         }
-        Ok(self.refuse(11))
+        Ok(self.refuse(Refusal::plain(11)))
     }
 
     fn is_asking(&self) -> bool {
@@ -168,11 +168,11 @@ impl Reader {
         }
     }
 
-    fn refuse(&mut self, number: u8) -> Event {
+    fn refuse(&mut self, refusal: Refusal) -> Event {
         self.stage = Stage::Over;
         self.body = None;
         self.gathered = Vec::new();
-        Event::Refused { number }
+        Event::Refused(refusal)
     }
 
     /// Takes at least one byte of a piece that has some, within the section under way.
@@ -219,10 +219,10 @@ impl Reader {
                     self.stage = Stage::HeadAsked(head);
                     Event::Question(question)
                 }
-                Err(number) => self.refuse(number),
+                Err(refusal) => self.refuse(refusal),
             });
         }
-        (self.gathered.len() == head::LIMIT).then(|| self.refuse(3))
+        (self.gathered.len() == head::LIMIT).then(|| self.refuse(Refusal::head(head::LIMIT)))
     }
 
     fn line_byte(&mut self) -> Option<Event> {
@@ -231,10 +231,10 @@ impl Reader {
             let before = self.body.as_ref()?.before();
             return match chunk::judge(&bytes, &before) {
                 Ok(line) => self.line(line),
-                Err(number) => Some(self.refuse(number)),
+                Err(refusal) => Some(self.refuse(refusal)),
             };
         }
-        (self.gathered.len() == chunk::LIMIT).then(|| self.refuse(6))
+        (self.gathered.len() == chunk::LIMIT).then(|| self.refuse(Refusal::frame(chunk::LIMIT)))
     }
 
     /// A good line: a question if it carries a signature, else the next section.
@@ -258,13 +258,13 @@ impl Reader {
         if self.gathered.len() < 2 {
             return None;
         }
-        let good = self.gathered == chunk::END;
-        self.gathered.clear();
-        if good {
-            self.stage = Stage::Line;
-            None
-        } else {
-            Some(self.refuse(6))
+        let bytes = std::mem::take(&mut self.gathered);
+        match chunk::judge_data_end(&bytes) {
+            Ok(()) => {
+                self.stage = Stage::Line;
+                None
+            }
+            Err(refusal) => Some(self.refuse(refusal)),
         }
     }
 
@@ -277,10 +277,10 @@ impl Reader {
                     self.stage = Stage::Over;
                     Event::Closed { total }
                 }
-                Err(number) => self.refuse(number),
+                Err(refusal) => self.refuse(refusal),
             });
         }
-        (self.gathered.len() == trailer::LIMIT).then(|| self.refuse(6))
+        (self.gathered.len() == trailer::LIMIT).then(|| self.refuse(Refusal::frame(trailer::LIMIT)))
     }
 }
 

@@ -1,6 +1,8 @@
 //! The trailer: CR LF at once, or field lines up to the first CR LF CR LF (paper 01, "Blocks", last
 //! point).
 
+use crate::event::Refusal;
+use crate::place::longest_beginning;
 use crate::text;
 
 /// So many bytes without the trailer's end are refused.
@@ -15,19 +17,30 @@ pub fn is_whole(bytes: &[u8]) -> bool {
     bytes == EMPTY || bytes.ends_with(END)
 }
 
-/// Judges a whole trailer: each line must keep the field line rule, else the refusal is 6.
-/// The fields are neither counted nor compared.
-pub fn judge(bytes: &[u8]) -> Result<(), u8> {
+/// Whether these bytes are one trailer and each of its lines keeps the field line rule. The fields are neither counted nor
+/// compared.
+pub fn is_good(bytes: &[u8]) -> bool {
     if bytes == EMPTY {
-        return Ok(());
+        return true;
     }
-    let without_empty_line = bytes.strip_suffix(EMPTY).ok_or(6)?;
-    let all_fields =
-        text::lines(without_empty_line).into_iter().all(|line| text::field_line(&without_empty_line[line]).is_some());
-    if all_fields {
+    let Some(lines) = bytes.strip_suffix(EMPTY).filter(|_| bytes.ends_with(END)) else { return false };
+    text::lines(lines).into_iter().all(|line| text::field_line(&lines[line]).is_some())
+}
+
+/// Where field lines up to CR LF CR LF went wrong, of a trailer or of a head behind its status line. From the first wrong line on
+/// they are such a text again, and the good lines before it need not be tried over and over.
+pub fn place(bytes: &[u8]) -> usize {
+    let wrong = text::lines(bytes).into_iter().find(|line| text::field_line(&bytes[line.clone()]).is_none());
+    let start = wrong.map_or(0, |line| line.start);
+    start + longest_beginning(&bytes[start..], b"a:\r\n\r\n", is_good)
+}
+
+/// Judges a whole trailer.
+pub fn judge(bytes: &[u8]) -> Result<(), Refusal> {
+    if is_good(bytes) {
         Ok(())
     } else {
-        Err(6)
+        Err(Refusal::frame(place(bytes)))
     }
 }
 
@@ -40,8 +53,15 @@ mod tests {
         for good in [&b"\r\n"[..], b"a:\r\n\r\n", b"a: b\r\na: b\r\n\r\n"] {
             assert_eq!(judge(good), Ok(()));
         }
-        for bad in [&b"\rx\r\n\r\n"[..], b"a b: c\r\n\r\n", b": c\r\n\r\n", b"a: b\r\n c\r\n\r\n", b"a\r\n\r\n"] {
-            assert_eq!(judge(bad), Err(6));
+        let bad: [(&[u8], usize); 5] = [
+            (b"\rx\r\n\r\n", 1),
+            (b"a b: c\r\n\r\n", 1),
+            (b": c\r\n\r\n", 0),
+            (b"a: b\r\n c\r\n\r\n", 6),
+            (b"a\r\n\r\n", 1),
+        ];
+        for (text, place) in bad {
+            assert_eq!(judge(text), Err(Refusal::frame(place)));
         }
     }
 }

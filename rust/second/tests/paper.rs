@@ -5,7 +5,7 @@
 use second::base64;
 use second::calls::{Calls, Holds, Word};
 use second::chunk::{self, Before};
-use second::event::Event;
+use second::event::{Event, Refusal};
 use second::head;
 use second::message;
 use second::plain;
@@ -147,7 +147,7 @@ fn first_line() -> Before {
     Before { block_size: 65_536, block: None, total: 0 }
 }
 
-fn size_of(line: &str) -> Result<u32, u8> {
+fn size_of(line: &str) -> Result<u32, Refusal> {
     chunk::judge(format!("{line}\r\n").as_bytes(), &first_line()).map(|line| line.size)
 }
 
@@ -155,10 +155,10 @@ fn size_of(line: &str) -> Result<u32, u8> {
 fn p1_to_p4_sizes() {
     assert_eq!(size_of("5"), Ok(5));
     assert_eq!(size_of("00000005"), Ok(5));
-    assert_eq!(size_of("000000005"), Err(6));
+    assert_eq!(size_of("000000005"), Err(Refusal::frame(8)));
     assert_eq!(size_of("a"), Ok(10));
     assert_eq!(size_of("A"), Ok(10));
-    assert_eq!(size_of(" 5"), Err(6));
+    assert_eq!(size_of(" 5"), Err(Refusal::frame(0)));
 }
 
 #[test]
@@ -176,8 +176,9 @@ fn p6_the_length_of_a_signature() {
     let before = Before { block_size: 5, block: Some(5), total: 5 };
     let judge = |text: &str| chunk::judge(format!("5;ouisig={text}\r\n").as_bytes(), &before);
     assert!(judge(&signature_text()).is_ok());
-    assert_eq!(judge(&signature_text()[1..]), Err(6));
-    assert_eq!(judge(&signature_text()[..87]), Err(6));
+    // The padding comes a character too early, and then the line's end does
+    assert_eq!(judge(&signature_text()[1..]), Err(Refusal::frame(9 + 85)));
+    assert_eq!(judge(&signature_text()[..87]), Err(Refusal::frame(9 + 87)));
 }
 
 #[test]
@@ -185,23 +186,23 @@ fn p7_base64() {
     assert_eq!(base64::decode(b"NhX4"), Some(vec![54, 21, 248]));
 }
 
-fn judged(injection: &str, size: &str) -> Result<(), u8> {
+fn judged(injection: &str, size: &str) -> Result<(), Refusal> {
     head::judge(&head_with(injection, size), &ring()).map(|_| ())
 }
 
 #[test]
 fn p8_injections() {
     assert_eq!(judged("id=a,ts=0", "5"), Ok(()));
-    assert_eq!(judged("id=,ts=1", "5"), Err(4));
-    assert_eq!(judged("id=a,ts=01", "5"), Err(4));
+    assert_eq!(judged("id=,ts=1", "5"), Err(Refusal::plain(4)));
+    assert_eq!(judged("id=a,ts=01", "5"), Err(Refusal::plain(4)));
 }
 
 #[test]
 fn p9_block_sizes() {
     let injection = "id=a,ts=0";
     assert_eq!(judged(injection, "65536"), Ok(()));
-    assert_eq!(judged(injection, "0"), Err(4));
-    assert_eq!(judged(injection, "65537"), Err(4));
+    assert_eq!(judged(injection, "0"), Err(Refusal::plain(4)));
+    assert_eq!(judged(injection, "65537"), Err(Refusal::plain(4)));
 }
 
 #[test]
@@ -232,7 +233,7 @@ fn a_list_of_calls() {
     let stream = example();
     let enough = Holds::ENOUGH;
     let short = Holds { block: 65_535, ..enough };
-    let refused = |number| Word::Refused { number };
+    let refused = |number| Word::Refused(Refusal::plain(number));
 
     assert_eq!(calls.answer(enough, true).word, refused(1));
     assert_eq!(calls.feed(short, &ring(), &stream).word, refused(2));
@@ -274,7 +275,7 @@ fn a_list_of_calls() {
 
     // Other bytes than the ones not taken: the reading is over the bytes taken.
     let wrong = calls.feed(enough, &[], b"12345X\nmore");
-    assert_eq!((wrong.word, wrong.taken), (refused(6), 7));
+    assert_eq!((wrong.word, wrong.taken), (Word::Refused(Refusal::frame(0)), 7));
     assert_eq!(calls.value(8192, b"date"), b"Sat, 21 Mar 2020 00:00:00 GMT");
     assert_eq!(calls.feed(enough, &[], b"").word, refused(1));
     assert_eq!(calls.feed(short, &[], b"").word, refused(2));

@@ -5,6 +5,13 @@ use crate::example;
 use crate::head::Field;
 use crate::plan::{blocks_of, Built, Kind, Plan, RingRecord, SizeStyle};
 use crate::rng::Rng;
+use second::event::Refusal;
+
+/// So many bytes of a head or trailer, or of a line, without an end are refused.
+const LIMIT: usize = 8192;
+const LINE_LIMIT: usize = 128;
+/// The end comes before the section's.
+const UNFINISHED: Refusal = Refusal { number: 11, at: None };
 
 /// All cases of this kind.
 pub fn all(rng: &mut Rng) -> Vec<Case> {
@@ -34,10 +41,17 @@ impl Table<'_> {
         self.cases.push(case);
     }
 
-    /// A plan whose head is refused.
+    /// A plan whose head is refused for another reason than its text.
     fn head_refused(&mut self, number: u8, label: impl Into<String>, plan: &Plan) {
         let built = plan.build();
-        self.bytes(label, built.bytes(), &built, vec![format!("refused {number}")]);
+        self.bytes(label, built.bytes(), &built, vec![Refusal::plain(number).to_string()]);
+    }
+
+    /// A plan whose head has too many bytes or fields: refused where the limit is reached, or else at its end.
+    fn head_too_long(&mut self, label: impl Into<String>, plan: &Plan) {
+        let built = plan.build();
+        let taken = built.parts[0].bytes.len().min(LIMIT);
+        self.bytes(label, built.bytes(), &built, vec![Refusal::head(taken).to_string()]);
     }
 
     /// Bytes for which the all-yes lines are these.
@@ -47,10 +61,10 @@ impl Table<'_> {
     }
 
     /// Bytes in the place of a part and all after it: what came before, and then this refusal.
-    fn instead(&mut self, number: u8, label: impl Into<String>, built: &Built, part: usize, bytes: &[u8]) {
+    fn instead(&mut self, refusal: Refusal, label: impl Into<String>, built: &Built, part: usize, bytes: &[u8]) {
         let before: Vec<u8> = built.parts[..part].iter().flat_map(|part| part.bytes.clone()).collect();
         let mut lines = built.lines_before(part);
-        lines.push(format!("refused {number}"));
+        lines.push(refusal.to_string());
         self.bytes(label, [&before, bytes].concat(), built, lines);
     }
 
@@ -64,19 +78,24 @@ impl Table<'_> {
                 if length <= 8192 {
                     self.good(label, &plan);
                 } else {
-                    self.head_refused(3, label, &plan);
+                    self.head_too_long(label, &plan);
                 }
             }
         }
         let built = example::plan().build();
-        for (length, number) in [(8191, 11), (8192, 3), (8193, 3), (20_000, 3)] {
+        for length in [8191, 8192, 8193, 20_000] {
+            let refusal = if length < LIMIT { UNFINISHED } else { Refusal::head(LIMIT) };
             let endless = [b"HTTP/1.1 200 OK\r\nA: ", &b"a".repeat(length)[..]].concat();
-            self.instead(number, format!("{length} bytes of head without an end"), &built, 0, &endless[..length]);
-            self.instead(number, format!("{length} line feeds"), &built, 0, &b"\n".repeat(length));
+            self.instead(refusal, format!("{length} bytes of head without an end"), &built, 0, &endless[..length]);
+            self.instead(refusal, format!("{length} line feeds"), &built, 0, &b"\n".repeat(length));
+            // An end within the limit: then the text is looked at
+            let ended = [&b"x".repeat(length - 4)[..], b"\r\n\r\n"].concat();
+            let place = if length > LIMIT { LIMIT } else { 0 };
+            self.instead(Refusal::head(place), format!("{length} bytes of no head, and its end"), &built, 0, &ended);
         }
-        self.instead(3, "CR LF CR LF at once", &built, 0, b"\r\n\r\n");
-        self.instead(11, "CR LF CR", &built, 0, b"\r\n\r");
-        self.instead(11, "no byte at all", &built, 0, b"");
+        self.instead(Refusal::head(0), "CR LF CR LF at once", &built, 0, b"\r\n\r\n");
+        self.instead(UNFINISHED, "CR LF CR", &built, 0, b"\r\n\r");
+        self.instead(UNFINISHED, "no byte at all", &built, 0, b"");
     }
 
     fn field_counts(&mut self) {
@@ -86,7 +105,7 @@ impl Table<'_> {
             if count <= 64 {
                 self.good(format!("{count} fields"), &plan);
             } else {
-                self.head_refused(3, format!("{count} fields"), &plan);
+                self.head_too_long(format!("{count} fields"), &plan);
             }
         }
     }
@@ -182,27 +201,30 @@ impl Table<'_> {
         let built = example::plan().build();
         let lines: Vec<usize> = [built.places(Kind::Line), built.places(Kind::ZeroLine)].concat();
         for part in lines {
-            for (length, number) in [(127, 11), (128, 6), (129, 6), (500, 6)] {
+            for length in [127, 128, 129, 500] {
+                let refusal = if length < LINE_LIMIT { UNFINISHED } else { Refusal::frame(LINE_LIMIT) };
                 let label = format!("{length} bytes of a line without an end, part {part}");
-                self.instead(number, label, &built, part, &b"1".repeat(length));
+                self.instead(refusal, label, &built, part, &b"1".repeat(length));
                 let label = format!("{length} bytes of CR, part {part}");
-                self.instead(number, label, &built, part, &b"\r".repeat(length));
+                self.instead(refusal, label, &built, part, &b"\r".repeat(length));
             }
             for length in [126, 127, 128, 129, 130] {
                 let line = [&b"1".repeat(length - 2)[..], b"\r\n"].concat();
-                self.instead(6, format!("a line of {length} bytes, part {part}"), &built, part, &line);
+                // Eight digits are good, unless the line's end comes too late for its text to matter
+                let refusal = Refusal::frame(if length > LINE_LIMIT { LINE_LIMIT } else { 8 });
+                self.instead(refusal, format!("a line of {length} bytes, part {part}"), &built, part, &line);
             }
-            self.instead(11, format!("a line cut between CR and LF, part {part}"), &built, part, b"1\r");
-            self.instead(6, format!("CR LF at once for a line, part {part}"), &built, part, b"\r\n");
+            self.instead(UNFINISHED, format!("a line cut between CR and LF, part {part}"), &built, part, b"1\r");
+            self.instead(Refusal::frame(0), format!("CR LF at once for a line, part {part}"), &built, part, b"\r\n");
         }
     }
 
     fn data_ends(&mut self) {
         let built = example::plan().build();
         for part in built.places(Kind::DataEnd) {
-            self.instead(11, format!("one wrong byte of a data end, part {part}"), &built, part, b"x");
-            self.instead(6, format!("two wrong bytes of a data end, part {part}"), &built, part, b"xy");
-            self.instead(11, format!("half a data end, part {part}"), &built, part, b"\r");
+            self.instead(UNFINISHED, format!("one wrong byte of a data end, part {part}"), &built, part, b"x");
+            self.instead(Refusal::frame(0), format!("two wrong bytes of a data end, part {part}"), &built, part, b"xy");
+            self.instead(UNFINISHED, format!("half a data end, part {part}"), &built, part, b"\r");
         }
     }
 
@@ -225,17 +247,19 @@ impl Table<'_> {
             let part = built.parts.len() - 1;
             for length in [8193, 8194, 9000] {
                 let label = format!("a trailer of {length} bytes after {blocks} blocks");
-                self.instead(6, label, &built, part, &trailer_of(length));
+                self.instead(Refusal::frame(LIMIT), label, &built, part, &trailer_of(length));
             }
-            for (length, number) in [(1, 11), (8191, 11), (8192, 6), (8193, 6)] {
+            for length in [1, 8191, 8192, 8193] {
+                let refusal = if length < LIMIT { UNFINISHED } else { Refusal::frame(LIMIT) };
                 let label = format!("{length} bytes of trailer without an end after {blocks} blocks");
-                self.instead(number, label, &built, part, &b"a".repeat(length));
+                self.instead(refusal, label, &built, part, &b"a".repeat(length));
                 let label = format!("{length} CR for a trailer after {blocks} blocks");
-                self.instead(number, label, &built, part, &b"\r".repeat(length));
+                self.instead(refusal, label, &built, part, &b"\r".repeat(length));
             }
-            self.instead(11, format!("no trailer after {blocks} blocks"), &built, part, b"");
-            self.instead(11, format!("a trailer line alone after {blocks} blocks"), &built, part, b"A: b\r\n");
-            self.instead(11, format!("CR LF CR of a trailer after {blocks} blocks"), &built, part, b"A: b\r\n\r");
+            self.instead(UNFINISHED, format!("no trailer after {blocks} blocks"), &built, part, b"");
+            self.instead(UNFINISHED, format!("a trailer line alone after {blocks} blocks"), &built, part, b"A: b\r\n");
+            let label = format!("CR LF CR of a trailer after {blocks} blocks");
+            self.instead(UNFINISHED, label, &built, part, b"A: b\r\n\r");
         }
     }
 

@@ -72,7 +72,7 @@ pub fn case(hit: Hit, streams: &[Built], rng: &mut Rng) -> Case {
 }
 
 /// Bytes that mean something somewhere in a stream, and some that mean nothing anywhere.
-fn odd_byte(rng: &mut Rng) -> u8 {
+pub fn odd_byte(rng: &mut Rng) -> u8 {
     if rng.one_in(2) {
         *rng.pick(b"\r\n \t\0:;,=\"()0159aAfFgGzZ+-_/.~\x7f\x80\xff")
     } else {

@@ -13,6 +13,7 @@
 //! * `rules`: a table of the rules of paper 01, each broken once;
 //! * `bounds`: both sides of each length limit;
 //! * `damage`: bytes changed, deleted, inserted, cut off;
+//! * `wrong_text`: damage to the text of a section;
 //! * `inputs`: malformed files;
 //! * `sequence`: the cases of a seed in order;
 //! * `example`: the example of document 000;
@@ -37,5 +38,6 @@ pub mod rng;
 pub mod rules;
 pub mod sequence;
 pub mod writer;
+pub mod wrong_text;
 
 pub use ::sodium;

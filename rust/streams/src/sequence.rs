@@ -1,5 +1,5 @@
-//! The cases of a seed, in order: first the fixed tables, then damage at every place (in an order
-//! that the seed shuffles) and random streams by turns.
+//! The cases of a seed, in order: first the fixed tables, then damaged text, then damage at every place
+//! (in an order that the seed shuffles) and random streams by turns.
 
 use crate::bounds;
 use crate::case::{Answering, Case};
@@ -10,6 +10,7 @@ use crate::plan::Built;
 use crate::random;
 use crate::rng::Rng;
 use crate::rules::{self, Rule, Spot};
+use crate::wrong_text;
 use std::collections::VecDeque;
 
 /// The groups that cases come from.
@@ -19,15 +20,17 @@ pub enum Group {
     Rules,
     Bounds,
     Inputs,
+    Text,
     Damage,
     Mixed,
 }
 
-pub const GROUPS: [(&str, Group); 6] = [
+pub const GROUPS: [(&str, Group); 7] = [
     ("example", Group::Example),
     ("rules", Group::Rules),
     ("bounds", Group::Bounds),
     ("inputs", Group::Inputs),
+    ("text", Group::Text),
     ("damage", Group::Damage),
     ("mixed", Group::Mixed),
 ];
@@ -54,6 +57,8 @@ pub struct Sequence {
     number: u64,
     mixed: bool,
     fixed: VecDeque<Case>,
+    /// How many cases of damaged text are left.
+    texts: usize,
     rules: Vec<Rule>,
     small: Vec<Built>,
     hits: Vec<Hit>,
@@ -80,7 +85,8 @@ impl Sequence {
         let small = damage::streams();
         let mut hits = if has(Group::Damage) { damage::every_place(&small) } else { Vec::new() };
         rng.shuffle(&mut hits);
-        Sequence { seed, number: 0, mixed: has(Group::Mixed), fixed, rules, small, hits }
+        let texts = if has(Group::Text) { wrong_text::COUNT } else { 0 };
+        Sequence { seed, number: 0, mixed: has(Group::Mixed), fixed, texts, rules, small, hits }
     }
 
     /// How many cases the fixed tables have left.
@@ -103,6 +109,10 @@ impl Iterator for Sequence {
             return Some(case);
         }
         let mut rng = Rng::for_case(self.seed, self.number);
+        if self.texts > 0 {
+            self.texts -= 1;
+            return Some(wrong_text::case(&mut rng));
+        }
         let turn_of_damage = !self.mixed || self.number.is_multiple_of(2);
         if turn_of_damage {
             if let Some(hit) = self.hits.pop() {

@@ -2,11 +2,12 @@
 //! and the list of calls must agree with each other and with what the generator expects.
 
 use second::calls::{Calls, Contents, Holds, Outcome, Word};
-use second::event::Event;
+use second::event::{Event, Refusal};
 use second::files;
 use second::plain;
 use second::reader::Reader;
 use second::ring::Record;
+use std::collections::BTreeMap;
 use streams::case::{Case, Expected};
 use streams::example;
 use streams::plan::RingRecord;
@@ -115,7 +116,7 @@ fn by_calls(stream: &[u8], inputs: &Inputs) -> (Vec<Word>, Vec<u8>) {
             };
             let outcome = calls.answer(Holds::ENOUGH, yes);
             note(&calls, outcome, &mut words);
-            if matches!(words.last(), Some(Word::Refused { .. })) {
+            if matches!(words.last(), Some(Word::Refused(_))) {
                 return (words, body);
             }
         }
@@ -146,15 +147,17 @@ fn check(case: &Case, with_calls: bool) {
 
 #[test]
 fn reader_and_plain_reading_agree() {
-    for case in Sequence::new(11, &all_groups()).take(2500) {
+    let groups: Vec<Group> = all_groups().into_iter().filter(|&group| group != Group::Text).collect();
+    for case in Sequence::new(11, &groups).take(2500).chain(Sequence::new(11, &[Group::Text]).take(1000)) {
         check(&case, false);
     }
 }
 
 #[test]
 fn calls_agree_on_short_streams() {
-    let groups = [Group::Example, Group::Damage, Group::Mixed];
-    for mut case in Sequence::new(12, &groups).filter(|case| case.stream.len() < 3000).take(150) {
+    let short = |groups: &[Group]| Sequence::new(12, groups).filter(|case| case.stream.len() < 3000);
+    let cases = short(&[Group::Example, Group::Damage, Group::Mixed]).take(150);
+    for mut case in cases.chain(short(&[Group::Text]).take(60)) {
         if case.cuts.as_deref() == Some(b"1\n") {
             case.cuts = Some(b"7\n0\n1\n".to_vec());
         }
@@ -270,7 +273,7 @@ fn a_refusal_after_a_release_leaves_the_block_hold_alone() {
         calls.feed(Holds::ENOUGH, &ring, &part.bytes);
         calls.answer(Holds::ENOUGH, true);
     }
-    assert_eq!(calls.end(Holds::ENOUGH).word, Word::Refused { number: 11 });
+    assert_eq!(calls.end(Holds::ENOUGH).word, Word::Refused(Refusal::plain(11)));
     assert!(calls.contents(&marked()).block.starts_with(b"Hello\xbb"));
 }
 
@@ -282,4 +285,26 @@ fn the_same_seed_gives_the_same_cases() {
     };
     assert_eq!(streams(4), streams(4));
     assert_ne!(streams(4), streams(5));
+}
+
+/// Each kind of section is refused inside its text, and those that can be without end are refused for their length too.
+#[test]
+fn damaged_text_is_mostly_refused_at_a_place() {
+    let mut counts: BTreeMap<String, [usize; 2]> = BTreeMap::new();
+    for case in Sequence::new(5, &[Group::Text]) {
+        let inputs = inputs(&case).expect("good files");
+        let reading = plain::read(&case.stream, &inputs.ring, &inputs.answers, true);
+        let last = reading.events.last().map(|placed| placed.event.clone());
+        if let (Some(Event::Refused(Refusal { at: Some(at), .. })), Some((kind, section))) =
+            (last, reading.sections.last())
+        {
+            counts.entry(format!("{kind:?}")).or_default()[usize::from(at == section.len())] += 1;
+        }
+    }
+    println!("refused inside the text, at its end: {counts:?}");
+    assert!(counts.values().flatten().sum::<usize>() > 3000);
+    for (kind, inside, at_end) in [("Head", 900, 100), ("Line", 700, 100), ("DataEnd", 200, 0), ("Trailer", 300, 100)] {
+        let [found_inside, found_at_end] = counts[kind];
+        assert!(found_inside > inside && found_at_end >= at_end, "{kind}: {found_inside}, {found_at_end}");
+    }
 }

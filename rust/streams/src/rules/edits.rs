@@ -12,44 +12,44 @@ pub const BSIGS: &str = "X-Ouinet-BSigs";
 pub const SIG0: &str = "X-Ouinet-Sig0";
 pub const CODING: &str = "Transfer-Encoding";
 
-/// Lines that are no field lines, without their CR LF.
-pub const ODD_LINES: [&[u8]; 36] = [
-    b":",
-    b": x",
-    b"A : x",
-    b"A\t: x",
-    b" A: x",
-    b"\tA: x",
-    b" ",
-    b"A",
-    b"no colon here",
-    b"A b: x",
-    b"A(: x",
-    b"A): x",
-    b"A\x80: x",
-    b"\xffA: x",
-    b"A\"b: x",
-    b"A/b: x",
-    b"A@b: x",
-    b"A,b: x",
-    b"A;b: x",
-    b"A=b: x",
-    b"A<b: x",
-    b"A>b: x",
-    b"A?b: x",
-    b"A[b: x",
-    b"A]b: x",
-    b"A\\b: x",
-    b"A{b: x",
-    b"A}b: x",
-    b"A\0: x",
-    b"A: x\0y",
-    b"A: \x01",
-    b"A: x\x1f",
-    b"A: x\x7fy",
-    b"A: x\ny",
-    b"A: x\ry",
-    b"A: x\r",
+/// Lines that are no field lines, without their CR LF, and where each goes wrong.
+pub const ODD_LINES: [(&[u8], usize); 36] = [
+    (b":", 0),
+    (b": x", 0),
+    (b"A : x", 1),
+    (b"A\t: x", 1),
+    (b" A: x", 0),
+    (b"\tA: x", 0),
+    (b" ", 0),
+    (b"A", 1),
+    (b"no colon here", 2),
+    (b"A b: x", 1),
+    (b"A(: x", 1),
+    (b"A): x", 1),
+    (b"A\x80: x", 1),
+    (b"\xffA: x", 0),
+    (b"A\"b: x", 1),
+    (b"A/b: x", 1),
+    (b"A@b: x", 1),
+    (b"A,b: x", 1),
+    (b"A;b: x", 1),
+    (b"A=b: x", 1),
+    (b"A<b: x", 1),
+    (b"A>b: x", 1),
+    (b"A?b: x", 1),
+    (b"A[b: x", 1),
+    (b"A]b: x", 1),
+    (b"A\\b: x", 1),
+    (b"A{b: x", 1),
+    (b"A}b: x", 1),
+    (b"A\0: x", 1),
+    (b"A: x\0y", 4),
+    (b"A: \x01", 3),
+    (b"A: x\x1f", 4),
+    (b"A: x\x7fy", 4),
+    (b"A: x\ny", 4),
+    (b"A: x\ry", 5),
+    (b"A: x\r", 5),
 ];
 
 pub type TextEdit = fn(&[u8]) -> Vec<u8>;
@@ -68,21 +68,21 @@ pub const KEY_EDITS: [(&str, TextEdit); 10] = [
     ("a byte of 128", |key| [b"\x80", &key[1..]].concat()),
 ];
 
-/// Ways to spoil the 88 characters of a signature.
-pub const SIGNATURE_EDITS: [(&str, TextEdit); 13] = [
-    ("87 characters", |text| text[1..].to_vec()),
-    ("89 characters", |text| [b"A", text].concat()),
-    ("84 characters", |text| text[4..].to_vec()),
-    ("92 characters", |text| [b"AAAA", text].concat()),
-    ("no padding", |text| text[..86].to_vec()),
-    ("one padding sign", |text| [&text[..86], b"A="].concat()),
-    ("padding replaced by letters", |text| [&text[..86], b"AA"].concat()),
-    ("the lowest spare bit set", |text| spare_bit(text, 1)),
-    ("the highest spare bit set", |text| spare_bit(text, 8)),
-    ("a letter of the other alphabet", |text| [b"_", &text[1..]].concat()),
-    ("a space inside", |text| [&text[..40], b" ", &text[41..]].concat()),
-    ("padding inside", |text| [&text[..2], b"==", &text[4..]].concat()),
-    ("padding inside and none at the end", |text| [b"AA==", &text[4..86], b"AA"].concat()),
+/// Ways to spoil the 88 characters of a signature, and where each goes wrong.
+pub const SIGNATURE_EDITS: [(&str, TextEdit, usize); 13] = [
+    ("87 characters", |text| text[1..].to_vec(), 85),
+    ("89 characters", |text| [&text[..85], b"A", &text[85..]].concat(), 86),
+    ("84 characters", |text| text[4..].to_vec(), 82),
+    ("92 characters", |text| [&text[..85], b"AAAA", &text[85..]].concat(), 86),
+    ("no padding", |text| text[..86].to_vec(), 86),
+    ("one padding sign", |text| [&text[..86], b"A="].concat(), 86),
+    ("padding replaced by letters", |text| [&text[..86], b"AA"].concat(), 86),
+    ("the lowest spare bit set", |text| spare_bit(text, 1), 85),
+    ("the highest spare bit set", |text| spare_bit(text, 8), 85),
+    ("a letter of the other alphabet", |text| [b"_", &text[1..]].concat(), 0),
+    ("a space inside", |text| [&text[..40], b" ", &text[41..]].concat(), 40),
+    ("padding inside", |text| [&text[..2], b"==", &text[4..]].concat(), 2),
+    ("padding inside and none at the end", |text| [b"AA==", &text[4..86], b"AA"].concat(), 2),
 ];
 
 /// The last letter before the padding with one of its spare bits set.
@@ -133,6 +133,11 @@ pub fn fill_fields(head: &mut Head, count: usize) {
     while head.fields.len() < count {
         head.fields.push(Field::new(format!("Filler-{}", head.fields.len()), ""));
     }
+}
+
+/// How many digits a line starts with.
+pub fn digits(line: &[u8]) -> usize {
+    line.iter().take_while(|byte| byte.is_ascii_hexdigit()).count()
 }
 
 /// A line with this size and some good signature.

@@ -1,106 +1,126 @@
 //! Broken rules of the chunk lines, the data ends and the trailer.
 
 use super::edits::*;
-use super::{Spot, Table, ANY_LINE, SIGNED_LINE};
-use crate::head::replaced;
+use super::{Spoilt, Spot, Table, ANY_LINE, SIGNED_LINE};
 use crate::plan::Plan;
+
+/// So many bytes without an end are refused.
+const LINE_LIMIT: usize = 128;
+const TRAILER_LIMIT: usize = 8192;
 
 impl Table {
     /// Chunk lines whose text is wrong, wherever they stand.
     pub(super) fn line_text(&mut self) {
+        self.before_and_behind_sizes();
+        self.at_line_ends();
+        self.extension_names();
+        for (label, edit, place) in SIGNATURE_EDITS {
+            self.text(format!("block signature: {label}"), SIGNED_LINE, move |line| {
+                let start = find(line, b";ouisig=") + 8;
+                let signature = edit(&line[start..start + 88]);
+                Spoilt::after(&[&line[..start], &signature[..place]].concat(), &[&signature[place..], b"\r\n"].concat())
+            });
+        }
+        self.text("a signature twice", SIGNED_LINE, |line| {
+            let start = find(line, b";");
+            Spoilt::taken([&line[..line.len() - 2], &line[start..]].concat(), LINE_LIMIT)
+        });
+    }
+
+    fn before_and_behind_sizes(&mut self) {
+        // What stands before the size, and how much of it is good
         let fronts = [
-            ("a space before", " "),
-            ("a tab before", "\t"),
-            ("a plus before", "+"),
-            ("a minus before", "-"),
-            ("0x before", "0x"),
-            ("a line feed before", "\n"),
-            ("a CR before", "\r"),
-            ("an empty line before", "\r\n"),
-            ("a letter before", "g"),
-            ("eight zeros before", "00000000"),
-            ("a quote before", "\""),
+            ("a space before", " ", 0),
+            ("a tab before", "\t", 0),
+            ("a plus before", "+", 0),
+            ("a minus before", "-", 0),
+            ("0x before", "0x", 1),
+            ("a line feed before", "\n", 0),
+            ("a CR before", "\r", 0),
+            ("an empty line before", "\r\n", 0),
+            ("a letter before", "g", 0),
+            ("eight zeros before", "00000000", 8),
+            ("a quote before", "\"", 0),
         ];
-        for (label, front) in fronts {
-            self.part(6, format!("{label} the size"), ANY_LINE, move |line, _| [front.as_bytes(), line].concat());
+        for (label, front, good) in fronts {
+            let (good, wrong) = front.as_bytes().split_at(good);
+            self.text(format!("{label} the size"), ANY_LINE, move |line| Spoilt::after(good, &[wrong, line].concat()));
         }
         let behind = [
-            ("a space", " "),
-            ("a tab", "\t"),
-            ("a letter", "g"),
-            ("an h", "h"),
-            ("a dot", ".0"),
-            ("a comma", ","),
-            ("a zero byte", "\0"),
-            ("an empty extension", ";"),
-            ("another extension", ";a=b"),
-            ("another extension with a space", "; a=b"),
+            ("a space", " ", 0),
+            ("a tab", "\t", 0),
+            ("a letter", "g", 0),
+            ("an h", "h", 0),
+            ("a dot", ".0", 0),
+            ("a comma", ",", 0),
+            ("a zero byte", "\0", 0),
+            ("an empty extension", ";", 1),
+            ("another extension", ";a=b", 1),
+            ("another extension with a space", "; a=b", 1),
         ];
-        for (label, text) in behind {
-            self.part(6, format!("{label} behind the size"), ANY_LINE, move |line, _| {
-                let digits = line.iter().take_while(|byte| byte.is_ascii_hexdigit()).count();
-                [&line[..digits], text.as_bytes(), &line[digits..]].concat()
+        for (label, text, good) in behind {
+            let (good, wrong) = text.as_bytes().split_at(good);
+            self.text(format!("{label} behind the size"), ANY_LINE, move |line| {
+                let (size, rest) = line.split_at(digits(line));
+                Spoilt::after(&[size, good].concat(), &[wrong, rest].concat())
             });
         }
-        let at_end = [
-            ("a space", " "),
-            ("a tab", "\t"),
-            ("a CR", "\r"),
-            ("a semicolon", ";"),
-            ("another extension", ";a=b"),
-            ("an equals sign", "="),
-        ];
-        for (label, text) in at_end {
-            self.part(6, format!("{label} at the line's end"), ANY_LINE, move |line, _| {
-                [&line[..line.len() - 2], text.as_bytes(), b"\r\n"].concat()
+        self.text("no digits", ANY_LINE, |line| Spoilt::after(b"", &line[digits(line)..]));
+        self.text("nine digits", ANY_LINE, |line| {
+            let nine = [&b"0".repeat(9 - digits(line))[..], line].concat();
+            Spoilt::after(&nine[..8], &nine[8..])
+        });
+        self.text("bad text before a missing signature", SIGNED_LINE, |line| {
+            Spoilt::after(b"", &[b" ", &unsigned_line(line)[..]].concat())
+        });
+        self.text("bad text before a size above N", ANY_LINE, |_| Spoilt::after(b"ffffffff", b" \r\n"));
+    }
+
+    fn at_line_ends(&mut self) {
+        for (label, text) in [("a space", " "), ("a tab", "\t"), ("an equals sign", "=")] {
+            self.text(format!("{label} at the line's end"), ANY_LINE, move |line| {
+                Spoilt::after(&line[..line.len() - 2], &[text.as_bytes(), b"\r\n"].concat())
             });
         }
-        self.part(6, "no digits", ANY_LINE, |line, _| {
-            let digits = line.iter().take_while(|byte| byte.is_ascii_hexdigit()).count();
-            line[digits..].to_vec()
+        self.text("a CR at the line's end", ANY_LINE, |line| Spoilt::after(&line[..line.len() - 1], b"\r\n"));
+        // A line without a signature may have a semicolon there, but nothing may come after it
+        for (label, text) in [("a semicolon", ";"), ("another extension", ";a=b")] {
+            self.text(format!("{label} at a signed line's end"), SIGNED_LINE, move |line| {
+                Spoilt::after(&line[..line.len() - 2], &[text.as_bytes(), b"\r\n"].concat())
+            });
+        }
+        self.text("a bare line feed for the end", ANY_LINE, |line| Spoilt::after(&line[..line.len() - 2], b"\nxy\r\n"));
+        self.text("a bare CR for the end", ANY_LINE, |line| Spoilt::after(&line[..line.len() - 1], b"xy\r\n"));
+        self.text("no end in 128 bytes", ANY_LINE, |line| {
+            Spoilt::taken([&line[..line.len() - 2], &b"A".repeat(200)[..], b"\r\n"].concat(), LINE_LIMIT)
         });
-        self.part(6, "nine digits", ANY_LINE, |line, _| {
-            let digits = line.iter().take_while(|byte| byte.is_ascii_hexdigit()).count();
-            [&b"0".repeat(9 - digits)[..], line].concat()
-        });
-        self.part(6, "a bare line feed for the end", ANY_LINE, |line, _| {
-            [&line[..line.len() - 2], b"\nxy\r\n"].concat()
-        });
-        self.part(6, "a bare CR for the end", ANY_LINE, |line, _| [&line[..line.len() - 2], b"\rxy\r\n"].concat());
-        self.part(6, "no end in 128 bytes", ANY_LINE, |line, _| {
-            [&line[..line.len() - 2], &b"A".repeat(200)[..], b"\r\n"].concat()
-        });
+    }
+
+    fn extension_names(&mut self) {
+        // What stands for `;ouisig=`, and how much of it is good
         let names = [
-            (";ouisig=", ";Ouisig="),
-            (";ouisig=", ";OUISIG="),
-            (";ouisig=", "; ouisig="),
-            (";ouisig=", " ;ouisig="),
-            (";ouisig=", ";ouisig ="),
-            (";ouisig=", ";ouisig= "),
-            (";ouisig=", ";ouisig=\""),
-            (";ouisig=", ";ouisig"),
-            (";ouisig=", ";sig="),
-            (";ouisig=", ";;ouisig="),
-            (";ouisig=", ",ouisig="),
-            (";ouisig=", "ouisig="),
-            (";ouisig=", ";a=b;ouisig="),
-            (";ouisig=", ";ouisig=;ouisig="),
+            (";Ouisig=", 1),
+            (";OUISIG=", 1),
+            ("; ouisig=", 1),
+            (" ;ouisig=", 0),
+            (";ouisig =", 7),
+            (";ouisig= ", 8),
+            (";ouisig=\"", 8),
+            (";ouisig", 7),
+            (";sig=", 1),
+            (";;ouisig=", 1),
+            (",ouisig=", 0),
+            ("ouisig=", 0),
+            (";a=b;ouisig=", 1),
+            (";ouisig=;ouisig=", 8),
         ];
-        for (old, new) in names {
-            self.part(6, format!("{new:?} for {old:?}"), SIGNED_LINE, move |line, _| {
-                replaced(line, old.as_bytes(), new.as_bytes())
+        for (new, good) in names {
+            let (good, wrong) = new.as_bytes().split_at(good);
+            self.text(format!("{new:?} for \";ouisig=\""), SIGNED_LINE, move |line| {
+                let (size, rest) = line.split_at(digits(line));
+                Spoilt::after(&[size, good].concat(), &[wrong, &rest[8..]].concat())
             });
         }
-        for (label, edit) in SIGNATURE_EDITS {
-            self.part(6, format!("block signature: {label}"), SIGNED_LINE, move |line, _| {
-                let start = find(line, b";ouisig=") + 8;
-                [&line[..start], &edit(&line[start..start + 88])[..], b"\r\n"].concat()
-            });
-        }
-        self.part(6, "a signature twice", SIGNED_LINE, |line, _| {
-            let start = find(line, b";");
-            [&line[..line.len() - 2], &line[start..]].concat()
-        });
     }
 
     /// Lines whose text is good: 8, 7 and the order of the numbers.
@@ -117,7 +137,7 @@ impl Table {
             &[Spot::ZeroLine],
             Box::new(|plan| plan.blocks.clear()),
             Box::new(|_| ()),
-            Box::new(|_, _| signed_line(b"000")),
+            Box::new(|_, _| Spoilt { bytes: signed_line(b"000"), at: None }),
         );
         let too_large: [fn(&Plan) -> usize; 4] =
             [|plan| plan.block_size + 1, |_| 65_537, |_| 0x8000_0000, |_| 0xffff_ffff];
@@ -146,33 +166,44 @@ impl Table {
             let rest = find(line, b";");
             [b"1", &line[rest..]].concat()
         });
-        self.part(6, "bad text before a missing signature", SIGNED_LINE, |line, _| {
-            [b" ", &unsigned_line(line)[..]].concat()
-        });
-        self.part(6, "bad text before a size above N", ANY_LINE, |_, _| b"ffffffff \r\n".to_vec());
     }
 
     pub(super) fn data_ends(&mut self) {
-        for end in [&b"\n\r"[..], b"\r\r", b"\n\n", b"xx", b"\rx", b"x\n", b"\0\0", b"  ", b"0\r"] {
+        for (end, good) in [
+            (&b"\n\r"[..], 0),
+            (b"\r\r", 1),
+            (b"\n\n", 0),
+            (b"xx", 0),
+            (b"\rx", 1),
+            (b"x\n", 0),
+            (b"\0\0", 0),
+            (b"  ", 0),
+            (b"0\r", 0),
+        ] {
             let label = format!("data end \"{}\"", end.escape_ascii());
-            self.part(6, label, &[Spot::DataEnd], move |_, _| end.to_vec());
+            self.text(label, &[Spot::DataEnd], move |_| Spoilt::after(&end[..good], &end[good..]));
         }
-        self.part(6, "no data end", &[Spot::DataEnd], |_, _| Vec::new());
-        self.part(6, "a bare line feed for a data end", &[Spot::DataEnd], |_, _| b"\n".to_vec());
-        self.part(6, "a byte of data too many", &[Spot::Data], |data, _| [data, b"x"].concat());
-        self.part(6, "a byte of data too few", &[Spot::Data], |data, _| data[1..].to_vec());
+        // The line that follows, or its first byte, is taken for the data end
+        self.text("no data end", &[Spot::DataEnd], |_| Spoilt::after(b"", b""));
+        self.text("a bare line feed for a data end", &[Spot::DataEnd], |_| Spoilt::after(b"", b"\n"));
+        // The place is counted from the data end's first byte
+        self.text("a byte of data too many", &[Spot::Data], |data| Spoilt::taken([data, b"x"].concat(), 0));
+        self.text("a byte of data too few", &[Spot::Data], |data| Spoilt::taken(data[1..].to_vec(), 0));
     }
 
     pub(super) fn trailer(&mut self) {
-        for (label, bytes) in [
-            ("CR and then another byte", &b"\rx\r\n\r\n"[..]),
-            ("a line feed at once", b"\n\r\n\r\n"),
-            ("CR CR LF at once", b"\r\r\n\r\n"),
-            ("a zero byte", b"\0\r\n\r\n"),
+        for (label, bytes, good) in [
+            ("CR and then another byte", &b"\rx\r\n\r\n"[..], 1),
+            ("a line feed at once", b"\n\r\n\r\n", 0),
+            ("CR CR LF at once", b"\r\r\n\r\n", 1),
+            ("a zero byte", b"\0\r\n\r\n", 0),
         ] {
-            self.part(6, format!("trailer: {label}"), &[Spot::Trailer], move |_, _| bytes.to_vec());
+            let (good, wrong) = bytes.split_at(good);
+            self.text(format!("trailer: {label}"), &[Spot::Trailer], move |_| Spoilt::after(good, wrong));
         }
-        self.part(6, "trailer: no end in 8,192 bytes", &[Spot::Trailer], |_, _| b"A: b\r\n".repeat(2000));
-        self.part(6, "trailer: one endless line", &[Spot::Trailer], |_, _| b"a".repeat(9000));
+        self.text("trailer: no end in 8,192 bytes", &[Spot::Trailer], |_| {
+            Spoilt::taken(b"A: b\r\n".repeat(2000), TRAILER_LIMIT)
+        });
+        self.text("trailer: one endless line", &[Spot::Trailer], |_| Spoilt::taken(b"a".repeat(9000), TRAILER_LIMIT));
     }
 }

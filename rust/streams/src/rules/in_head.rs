@@ -2,77 +2,84 @@
 //! they are tested.
 
 use super::edits::*;
-use super::{Spot, Table};
-use crate::head::Field;
+use super::{Spoilt, Spot, Table};
+use crate::head::{Field, Head};
+use crate::plan::Plan;
 
 impl Table {
     pub(super) fn status_line(&mut self) {
-        let lines: [&[u8]; 20] = [
-            b"HTTP/1.0 200 OK",
-            b"HTTP/2 200 OK",
-            b"http/1.1 200 OK",
-            b"HTTP/1.1  200 OK",
-            b"HTTP/1.1\t200 OK",
-            b"HTTP/1.1 20 OK",
-            b"HTTP/1.1 2000 OK",
-            b"HTTP/1.1 2O0 OK",
-            b"HTTP/1.1 +20 OK",
-            b"HTTP/1.1 200",
-            b"HTTP/1.1 200\tOK",
-            b"HTTP/1.1 ",
-            b"HTTP/1.1",
-            b"",
-            b" HTTP/1.1 200 OK",
-            b"HTTP/1.1 200 O\0K",
-            b"HTTP/1.1 200 O\x1fK",
-            b"HTTP/1.1 200 O\x7fK",
-            b"HTTP/1.1 200 O\nK",
-            b"HTTP/1.1 200 OK\r",
+        let lines: [(&[u8], usize); 20] = [
+            (b"HTTP/1.0 200 OK", 7),
+            (b"HTTP/2 200 OK", 5),
+            (b"http/1.1 200 OK", 0),
+            (b"HTTP/1.1  200 OK", 9),
+            (b"HTTP/1.1\t200 OK", 8),
+            (b"HTTP/1.1 20 OK", 11),
+            (b"HTTP/1.1 2000 OK", 12),
+            (b"HTTP/1.1 2O0 OK", 10),
+            (b"HTTP/1.1 +20 OK", 9),
+            (b"HTTP/1.1 200", 12),
+            (b"HTTP/1.1 200\tOK", 12),
+            (b"HTTP/1.1 ", 9),
+            (b"HTTP/1.1", 8),
+            (b"", 0),
+            (b" HTTP/1.1 200 OK", 0),
+            (b"HTTP/1.1 200 O\0K", 14),
+            (b"HTTP/1.1 200 O\x1fK", 14),
+            (b"HTTP/1.1 200 O\x7fK", 14),
+            (b"HTTP/1.1 200 O\nK", 14),
+            (b"HTTP/1.1 200 OK\r", 16),
         ];
-        for line in lines {
+        for (line, place) in lines {
             let label = format!("status line \"{}\"", line.escape_ascii());
-            self.head(3, label, move |head| head.status_line = line.to_vec());
+            self.head_text(label, move |head| head.status_line = line.to_vec(), move |_| place);
         }
     }
 
     /// Lines that break the field line rule: 3 in the head and 6 in the trailer.
     pub(super) fn field_lines(&mut self) {
-        for line in ODD_LINES {
+        for (line, place) in ODD_LINES {
+            let (good, wrong) = line.split_at(place);
             let label = format!("field line \"{}\"", line.escape_ascii());
-            self.part(3, label.clone(), &[Spot::Head], move |bytes, _| {
-                let first = bytes.windows(2).position(|pair| pair == b"\r\n").map_or(0, |place| place + 2);
-                [&bytes[..first], line, b"\r\n", &bytes[first..]].concat()
+            self.text(label.clone(), &[Spot::Head], move |bytes| {
+                let first = find(bytes, b"\r\n") + 2;
+                Spoilt::after(&[&bytes[..first], good].concat(), &[wrong, b"\r\n", &bytes[first..]].concat())
             });
-            self.part(3, format!("last {label}"), &[Spot::Head], move |bytes, _| {
-                [&bytes[..bytes.len() - 2], line, b"\r\n\r\n"].concat()
+            self.text(format!("last {label}"), &[Spot::Head], move |bytes| {
+                Spoilt::after(&[&bytes[..bytes.len() - 2], good].concat(), &[wrong, b"\r\n\r\n"].concat())
             });
-            self.part(6, label.clone(), &[Spot::Trailer], move |_, _| [line, b"\r\n\r\n"].concat());
-            self.part(6, format!("second {label}"), &[Spot::Trailer], move |_, _| {
-                [b"A: b\r\n", line, b"\r\nC: d\r\n\r\n"].concat()
+            self.text(label.clone(), &[Spot::Trailer], move |_| Spoilt::after(good, &[wrong, b"\r\n\r\n"].concat()));
+            self.text(format!("second {label}"), &[Spot::Trailer], move |_| {
+                Spoilt::after(&[b"A: b\r\n", good].concat(), &[wrong, b"\r\nC: d\r\n\r\n"].concat())
             });
         }
     }
 
     pub(super) fn doubled_names(&mut self) {
         for name in [VERSION, URI, INJECTION, BSIGS, SIG0, CODING] {
-            self.head(3, format!("{name} twice"), move |head| {
+            self.doubled(format!("{name} twice"), move |head| {
                 let field = head.field(name).clone();
                 head.fields.push(field);
             });
-            self.head(3, format!("{name} twice, in other cases"), move |head| {
+            self.doubled(format!("{name} twice, in other cases"), move |head| {
                 let mut field = head.field(name).clone();
                 field.name = swapped_case(&field.name);
                 head.fields.insert(0, field);
             });
         }
-        self.head(3, "an unsigned name twice", |head| {
+        self.doubled("an unsigned name twice", |head| {
             head.fields.insert(0, Field::new("Zz", "1"));
             head.fields.push(Field::new("zZ", "2"));
         });
-        self.head(3, "two names next to each other, both empty", |head| {
+        self.doubled("two names next to each other, both empty", |head| {
             head.fields.push(Field::new("~", ""));
             head.fields.push(Field::new("~", ""));
         });
+    }
+
+    /// A head of good text that has a field twice or too many of them: its place is its whole length.
+    fn doubled(&mut self, label: impl Into<String>, edit: impl Fn(&mut Head) + 'static) {
+        self.head_text(label, edit, <[u8]>::len);
     }
 
     pub(super) fn version(&mut self) {
@@ -169,24 +176,39 @@ impl Table {
         }
     }
 
+    /// An edit of the head, and then a last line that begins well and goes wrong.
+    fn bad_last_line(
+        &mut self,
+        label: &str,
+        good: &'static [u8],
+        wrong: &'static [u8],
+        edit: impl Fn(&mut Head) + 'static,
+    ) {
+        let part = move |bytes: &[u8], _: &Plan| {
+            Spoilt::after(&[&bytes[..bytes.len() - 2], good].concat(), &[wrong, b"\r\n\r\n"].concat())
+        };
+        self.push(3, label.to_string(), &[Spot::Head], Box::new(|_| ()), Box::new(edit), Box::new(part));
+    }
+
     /// Two rules broken at once: the one that is tested first gives the number.
     pub(super) fn order_in_the_head(&mut self) {
-        self.head(3, "a doubled name before version 5", |head| {
+        self.doubled("a doubled name before version 5", |head| {
             head.set(VERSION, b"5");
             head.fields.push(Field::new("date9", ""));
             head.fields.push(Field::new("Date9", ""));
         });
-        self.head(3, "bad text before a missing version", |head| {
-            head.drop_field(VERSION);
-            head.fields.push(Field::new("A", "\x01"));
-        });
-        self.head(3, "the last line's bad text before status 404", |head| {
+        self.bad_last_line("bad text before a missing version", b"A: ", b"\x01", |head| head.drop_field(VERSION));
+        self.bad_last_line("the last line's bad text before status 404", b"A", b" b:", |head| {
             head.status_line = b"HTTP/1.1 404 Not Found".to_vec();
-            head.fields.push(Field::new("A b", ""));
         });
-        self.head(3, "too many fields before version 5", |head| {
+        self.doubled("too many fields before version 5", |head| {
             head.set(VERSION, b"5");
             fill_fields(head, 65);
+        });
+        self.bad_last_line("bad text after too many fields", b"A: ", b"\x7f", |head| fill_fields(head, 70));
+        self.bad_last_line("bad text after a doubled name", b"A", b"\t: x", |head| {
+            head.fields.insert(0, Field::new("~", ""));
+            head.fields.push(Field::new("~", ""));
         });
         self.head(5, "version 5 before status 404", |head| {
             head.set(VERSION, b"5");

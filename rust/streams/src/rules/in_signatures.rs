@@ -184,7 +184,7 @@ impl Table {
             let list = value[headers..].split(|&byte| byte == b'"').nth(1).unwrap_or_default().to_vec();
             *value = [&value[..headers], &value[signature..], b",headers=\"", &list, b"\""].concat();
         });
-        for (label, edit) in SIGNATURE_EDITS {
+        for (label, edit, _) in SIGNATURE_EDITS {
             self.head(4, format!("head signature: {label}"), move |head| {
                 let value = &mut head.field(SIG0).value;
                 let start = find(value, b"signature=\"") + 11;

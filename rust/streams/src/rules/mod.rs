@@ -1,5 +1,6 @@
 //! A table of the rules of paper 01, each broken once, with the number that a reader must refuse
-//! with. A rule is broken on an otherwise honest stream, so what comes before is known as well.
+//! with and, for 3 and 6, the place where the text goes wrong (request #106). A rule is broken on an
+//! otherwise honest stream, so what comes before is known as well.
 
 mod edits;
 mod in_body;
@@ -9,6 +10,7 @@ mod in_signatures;
 use crate::head::Head;
 use crate::plan::{Built, Kind, Part, Plan, RingRecord};
 use crate::rng::Rng;
+use second::event::Refusal;
 
 /// Which part of a stream is broken, and so which one is refused.
 #[derive(Clone, Copy, PartialEq, Eq, Debug)]
@@ -27,7 +29,25 @@ const SIGNED_LINE: &[Spot] = &[Spot::LaterLine, Spot::ZeroLine];
 
 type PlanEdit = Box<dyn Fn(&mut Plan)>;
 type HeadEdit = Box<dyn Fn(&mut Head)>;
-type PartEdit = Box<dyn Fn(&[u8], &Plan) -> Vec<u8>>;
+type PartEdit = Box<dyn Fn(&[u8], &Plan) -> Spoilt>;
+
+/// A part after an edit, and where its text goes wrong if that is what the edit is about.
+struct Spoilt {
+    bytes: Vec<u8>,
+    at: Option<usize>,
+}
+
+impl Spoilt {
+    /// Good text and what cannot follow it.
+    fn after(good: &[u8], wrong: &[u8]) -> Self {
+        Spoilt { bytes: [good, wrong].concat(), at: Some(good.len()) }
+    }
+
+    /// Bytes that are refused for their length, count or a doubling, when so many were taken.
+    fn taken(bytes: Vec<u8>, at: usize) -> Self {
+        Spoilt { bytes, at: Some(at) }
+    }
+}
 
 /// A rule to break: on the plan before anything is signed, on the built head, or on the bytes of a
 /// part.
@@ -61,9 +81,11 @@ impl Rule {
             built.parts[0].bytes = built.head.bytes();
         }
         let mut lines = built.lines_before(number);
-        lines.push(format!("refused {}", self.number));
         let part: &mut Part = &mut built.parts[number];
-        part.bytes = (self.part)(&part.bytes, &plan);
+        let spoilt = (self.part)(&part.bytes, &plan);
+        part.bytes = spoilt.bytes;
+        let refusal = Refusal { number: self.number, at: spoilt.at };
+        lines.push(refusal.to_string());
         Broken { stream: built.bytes(), lines, body: built.body, ring: built.ring }
     }
 }
@@ -119,12 +141,23 @@ impl Table {
         self.push(number, label.into(), &[Spot::Head], Box::new(edit), Box::new(|_| ()), unchanged());
     }
 
-    /// Broken on the built head.
+    /// Broken on the built head, by a rule that is not about its text.
     fn head(&mut self, number: u8, label: impl Into<String>, edit: impl Fn(&mut Head) + 'static) {
         self.push(number, label.into(), &[Spot::Head], Box::new(|_| ()), Box::new(edit), unchanged());
     }
 
-    /// Broken on the bytes of a part.
+    /// The text of the built head broken, or its fields too many or doubled: refused with 3 at a place of its bytes.
+    fn head_text(
+        &mut self,
+        label: impl Into<String>,
+        edit: impl Fn(&mut Head) + 'static,
+        place: impl Fn(&[u8]) -> usize + 'static,
+    ) {
+        let part = move |bytes: &[u8], _: &Plan| Spoilt::taken(bytes.to_vec(), place(bytes));
+        self.push(3, label.into(), &[Spot::Head], Box::new(|_| ()), Box::new(edit), Box::new(part));
+    }
+
+    /// Broken on the bytes of a part, by a rule that is not about its text.
     fn part(
         &mut self,
         number: u8,
@@ -132,7 +165,15 @@ impl Table {
         spots: &[Spot],
         edit: impl Fn(&[u8], &Plan) -> Vec<u8> + 'static,
     ) {
-        self.push(number, label.into(), spots, Box::new(|_| ()), Box::new(|_| ()), Box::new(edit));
+        let part = move |bytes: &[u8], plan: &Plan| Spoilt { bytes: edit(bytes, plan), at: None };
+        self.push(number, label.into(), spots, Box::new(|_| ()), Box::new(|_| ()), Box::new(part));
+    }
+
+    /// The text of a part broken: refused with 3 in the head, else with 6.
+    fn text(&mut self, label: impl Into<String>, spots: &[Spot], edit: impl Fn(&[u8]) -> Spoilt + 'static) {
+        let number = if spots.contains(&Spot::Head) { 3 } else { 6 };
+        let part = move |bytes: &[u8], _: &Plan| edit(bytes);
+        self.push(number, label.into(), spots, Box::new(|_| ()), Box::new(|_| ()), Box::new(part));
     }
 
     /// Broken by a plan of another shape: refused at this spot.
@@ -158,5 +199,5 @@ impl Table {
 }
 
 fn unchanged() -> PartEdit {
-    Box::new(|bytes, _| bytes.to_vec())
+    Box::new(|bytes, _| Spoilt { bytes: bytes.to_vec(), at: None })
 }

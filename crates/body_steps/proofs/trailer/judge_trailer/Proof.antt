@@ -58,6 +58,18 @@ returns-2 c = λ h q.
     let g = rw sub-zero at (c .before .before .before .is-trailer .ensures) in
     rw (c .said2 .ensures, c .before .in-phase .ensures, ← w, not-false (c .before .before .before .before .before .before .before .is-whole-trailer .result) (c .before .before .before .before .before .before .if1 .left), ← g, c .before .before .if2 .taken)
 
+sub-trailer-place : tie.Need-sub-trailer-place
+sub-trailer-place c = search needs
+
+part-trailer-place-start : tie.Need-part-trailer-place-start
+part-trailer-place-start c = search needs
+
+part-trailer-place-end : tie.Need-part-trailer-place-end
+part-trailer-place-end c = search needs
+
+trailer-place-requires : tie.Need-trailer-place-requires
+trailer-place-requires c κs = search needs
+
 refused-requires : tie.Need-refused-requires
 refused-requires c κs = search needs
 
@@ -67,9 +79,10 @@ same-length-3 c = search needs
 returns-3 : tie.Need-returns-3
 unfolding trailerGathered
 returns-3 c = λ h q.
-    let w = rw sub-zero at (c .before .before .before .before .before .before .before .before .before .is-whole-trailer .ensures) in
-    let g = rw sub-zero at (c .before .before .before .before .before .is-trailer .ensures) in
-    rw (← w, not-false (c .before .before .before .before .before .before .before .before .before .is-whole-trailer .result) (c .before .before .before .before .before .before .before .before .if1 .left), ← g, c .before .before .before .before .if2 .left) (c .before .before .refused .ensures h q)
+    let w = rw sub-zero at (c .before .before .before .before .before .before .before .before .before .before .before .before .is-whole-trailer .ensures) in
+    let g = rw sub-zero at (c .before .before .before .before .before .before .before .before .is-trailer .ensures) in
+    let p = rw sub-zero at (c .before .before .before .before .trailer-place .ensures) in
+    rw (← w, not-false (c .before .before .before .before .before .before .before .before .before .before .before .before .is-whole-trailer .result) (c .before .before .before .before .before .before .before .before .before .before .before .if1 .left), ← g, c .before .before .before .before .before .before .before .if2 .left, ← p) (c .before .before .refused .ensures h q)
 
 pub judge-trailer-spec : {M : Type 1} → statement M
 judge-trailer-spec =
@@ -90,6 +103,10 @@ judge-trailer-spec =
     said-requires-2
     same-length-2
     returns-2
+    sub-trailer-place
+    part-trailer-place-start
+    part-trailer-place-end
+    trailer-place-requires
     refused-requires
     same-length-3
     returns-3)

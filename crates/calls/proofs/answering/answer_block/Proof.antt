@@ -6,6 +6,9 @@ use borrow.Author.Needs.{needs}
 use Rattle.calls.proofs.answering.answer_block.Statement.{statement}
 use Rattle.calls.proofs.answering.answer_block.Tie as tie
 
+plain-requires : tie.Need-plain-requires
+plain-requires c κs = search needs
+
 refused-requires : tie.Need-refused-requires
 refused-requires c κs = search needs
 
@@ -17,7 +20,7 @@ same-length c = search needs
 
 returns : tie.Need-returns
 unfolding blockAnswer
-returns c = λ h q. rw (c .ended .ensures, not-true (c .before .before .before .before .before .before .before .args .good) (c .before .before .before .before .before .if1 .taken)) (refused-call _ h _ q _ _ _ (c .before .before .before .refused .ensures h q))
+returns c = λ h q. rw (c .ended .ensures, not-true (c .before .before .before .before .before .before .before .before .args .good) (c .before .before .before .before .before .before .if1 .taken), ← (c .before .before .before .before .before .plain .ensures)) (refused-call _ h _ q _ _ _ (c .before .before .before .refused .ensures h q))
 
 least-requires : tie.Need-least-requires
 least-requires c κs = search needs
@@ -39,6 +42,7 @@ pub answer-block-spec : {M : Type 1} → statement M
 answer-block-spec =
     tie.close
     (tie.spec
+    plain-requires
     refused-requires
     ended-requires
     same-length

@@ -7,6 +7,9 @@ use borrow.Author.Needs.{needs}
 use Rattle.calls.proofs.answering.answer_head.Statement.{statement}
 use Rattle.calls.proofs.answering.answer_head.Tie as tie
 
+plain-requires : tie.Need-plain-requires
+plain-requires c κs = search needs
+
 in-phase-requires : tie.Need-in-phase-requires
 in-phase-requires c κs = search needs
 
@@ -15,7 +18,7 @@ told-requires c κs = search needs
 
 returns : tie.Need-returns
 unfolding headAnswer refuse
-returns c = λ h b q. rw (c .told .ensures, c .before .in-phase .ensures, not-true (c .before .before .before .args .good) (c .before .before .if1 .taken), cleared-none)
+returns c = λ h b q. rw (c .told .ensures, c .before .in-phase .ensures, c .before .before .plain .ensures, not-true (c .before .before .before .before .args .good) (c .before .before .before .if1 .taken), cleared-none)
 
 accepted-requires : tie.Need-accepted-requires
 accepted-requires c κs = search needs
@@ -30,4 +33,4 @@ returns-2 c = λ h b q. rw (c .told2 .ensures, c .before .accepted .ensures, not
 pub answer-head-spec : {M : Type 1} → statement M
 answer-head-spec =
     tie.close
-    (tie.spec in-phase-requires told-requires returns accepted-requires told-requires-2 returns-2)
+    (tie.spec plain-requires in-phase-requires told-requires returns accepted-requires told-requires-2 returns-2)

@@ -29,6 +29,9 @@ returns-2 c = rw (c .unchanged2 .ensures, ← (c .before .before .before .before
 pending-requires : tie.Need-pending-requires
 pending-requires c κs = search needs
 
+plain-requires : tie.Need-plain-requires
+plain-requires c κs = search needs
+
 recalled-requires : tie.Need-recalled-requires
 recalled-requires c κs = search needs
 
@@ -43,7 +46,7 @@ same-length c = search needs
 
 returns-3 : tie.Need-returns-3
 unfolding endOf
-returns-3 c = rw (c .ended .ensures, ← (c .before .before .before .before .before .before .before .before .before .before .are-roomy .ensures), not-false (c .before .before .before .before .before .before .before .before .before .before .are-roomy .result) (c .before .before .before .before .before .before .before .before .before .if1 .left), ← (c .before .before .before .before .before .before .before .before .is-reading .ensures), not-false (c .before .before .before .before .before .before .before .before .is-reading .result) (c .before .before .before .before .before .before .before .if2 .left), ← (c .before .before .before .before .before .before .pending .ensures), ← (c .before .before .before .before .before .recalled .ensures)) (refused-call _ _ _ _ _ _ _ (c .before .before .before .refused .ensures _ _))
+returns-3 c = rw (c .ended .ensures, ← (c .before .before .before .before .before .before .before .before .before .before .before .are-roomy .ensures), not-false (c .before .before .before .before .before .before .before .before .before .before .before .are-roomy .result) (c .before .before .before .before .before .before .before .before .before .before .if1 .left), ← (c .before .before .before .before .before .before .before .before .before .is-reading .ensures), not-false (c .before .before .before .before .before .before .before .before .before .is-reading .result) (c .before .before .before .before .before .before .before .before .if2 .left), ← (c .before .before .before .before .before .before .before .pending .ensures), ← (c .before .before .before .before .before .before .plain .ensures), ← (c .before .before .before .before .before .recalled .ensures)) (refused-call _ _ _ _ _ _ _ (c .before .before .before .refused .ensures _ _))
 
 pub end-spec : {M : Type 1} → statement M
 end-spec =
@@ -56,6 +59,7 @@ end-spec =
     unchanged-requires-2
     returns-2
     pending-requires
+    plain-requires
     recalled-requires
     refused-requires
     ended-requires

@@ -48,12 +48,12 @@ returns : tie.Need-returns
 returns c =
     let n = c .before .before .before in
     let h = n .before .before in
-    c .read-extension .ensures ∙ sym (text-sized _ _ (h .before .before .run-end .ensures) _ (sym (h .hex .ensures) ∙ n .size .given .1))
+    c .read-extension .ensures ∙ sym (text-sized _ _ (h .before .before .run-end .ensures) _ (sym (h .hex .ensures .0) ∙ n .size .given .1))
 
 returns-2 : tie.Need-returns-2
 returns-2 c =
     let h = c .before .before .before in
-    c .wrong .ensures ∙ sym (text-unsized _ _ (h .before .before .run-end .ensures) (sym (h .hex .ensures) ∙ c .before .enum-told .given .1))
+    c .wrong .ensures ∙ sym (text-unsized _ _ (h .before .before .run-end .ensures) _ (sym (h .hex .ensures .0) ∙ c .before .enum-told .given .1))
 
 pub read-text-spec : {M : Type 1} → statement M
 read-text-spec =

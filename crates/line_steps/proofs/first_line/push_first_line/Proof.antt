@@ -7,6 +7,9 @@ use Rattle.state.proofs.BufferLaws.{cleared-none}
 use Rattle.line_steps.proofs.first_line.push_first_line.Statement.{statement}
 use Rattle.line_steps.proofs.first_line.push_first_line.Tie as tie
 
+too-long-requires : tie.Need-too-long-requires
+too-long-requires c κs = search needs
+
 in-phase-requires : tie.Need-in-phase-requires
 in-phase-requires c κs = search needs
 
@@ -15,7 +18,7 @@ said-requires c κs = search needs
 
 returns : tie.Need-returns
 unfolding pushFirstLine refuse
-returns c = λ h b q. rw (c .said .ensures, c .before .in-phase .ensures, le-leb _ _ (c .before .before .if1 .taken), cleared-none)
+returns c = λ h b q. rw (c .said .ensures, c .before .in-phase .ensures, c .before .before .too-long .ensures, le-leb _ _ (c .before .before .before .if1 .taken), cleared-none)
 
 array-write-line : tie.Need-array-write-line
 array-write-line c = search needs
@@ -37,6 +40,7 @@ pub push-first-line-spec : {M : Type 1} → statement M
 push-first-line-spec =
     tie.close
     (tie.spec
+    too-long-requires
     in-phase-requires
     said-requires
     returns

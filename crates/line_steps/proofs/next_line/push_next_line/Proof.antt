@@ -5,6 +5,9 @@ use Rattle.line_steps.specs.NextLine.{pushNextLine}
 use Rattle.line_steps.proofs.next_line.push_next_line.Statement.{statement}
 use Rattle.line_steps.proofs.next_line.push_next_line.Tie as tie
 
+too-long-requires : tie.Need-too-long-requires
+too-long-requires c κs = search needs
+
 refused-requires : tie.Need-refused-requires
 refused-requires c κs = search needs
 
@@ -13,7 +16,7 @@ same-length c = search needs
 
 returns : tie.Need-returns
 unfolding pushNextLine
-returns c = λ h. rw (le-leb _ _ (c .before .before .before .before .if1 .taken)) (c .before .before .refused .ensures h _)
+returns c = λ h. rw (le-leb _ _ (c .before .before .before .before .before .if1 .taken), ← (c .before .before .before .before .too-long .ensures)) (c .before .before .refused .ensures h _)
 
 array-write-line : tie.Need-array-write-line
 array-write-line c = search needs
@@ -41,6 +44,7 @@ pub push-next-line-spec : {M : Type 1} → statement M
 push-next-line-spec =
     tie.close
     (tie.spec
+    too-long-requires
     refused-requires
     same-length
     returns

@@ -38,13 +38,13 @@ returns-3 : tie.Need-returns-3
 returns-3 c =
     let s = c .before .before in
     let d = s .before .before in
-    let f = decimal-found 12 _ _ (lit≤ tt) (sym (d .decimal .ensures) ∙ s .seconds .given .1) in
+    let f = decimal-found 12 _ (lit≤ tt) _ (sym (d .decimal .ensures .0) ∙ s .seconds .given .1) in
     rw (c .fill .ensures, f .1) (sym (injection-good _ _ (d .before .before .if1 .left) (d .before .if2 .left) (f .0)))
 
 returns-4 : tie.Need-returns-4
 returns-4 c =
     let d = c .before .before .before in
-    c .no-injection3 .ensures ∙ sym (time-bad _ _ (decimal-missed 12 _ (lit≤ tt) (sym (d .decimal .ensures) ∙ c .before .enum-told .given .1)))
+    c .no-injection3 .ensures ∙ sym (time-bad _ _ (decimal-missed 12 _ (lit≤ tt) _ (sym (d .decimal .ensures .0) ∙ c .before .enum-told .given .1)))
 
 pub judge-spec : {M : Type 1} → statement M
 judge-spec =

@@ -65,14 +65,14 @@ returns-3 c =
     let a = s .args in
     let y = decoded-yes 32 _ _ _ (k .key .ensures) (k .before .before .bytes-of .ensures) (not-false _ (f .if1 .left)) in
     let z = decoded-yes 64 _ _ _ (g .signature .ensures) (g .before .before .bytes-of2 .ensures) (not-false _ (e .if2 .left)) in
-    let d = decimal-found 12 _ _ (lit≤ tt) (sym (c .before .before .decimal .ensures) ∙ c .enum-told .given .1) in
+    let d = decimal-found 12 _ (lit≤ tt) _ (sym (c .before .before .decimal .ensures .0) ∙ c .enum-told .given .1) in
     rw (y .1, z .1) (sig0-good (now (a .value)) _ _ (a .created) (a .names) (s .pre .1) (s .pre .2) (y .0) (rw (b .bytes-of3 .ensures) at (d .0)) (z .0))
 
 returns-4 : tie.Need-returns-4
 returns-4 c =
     let d = c .before .before .before in
     rw (c .no-sig03 .ensures)
-    (created-bad _ _ _ _ _ (rw (d .before .bytes-of3 .ensures) at (decimal-missed 12 _ (lit≤ tt) (sym (d .decimal .ensures) ∙ c .before .enum-told2 .given .1))))
+    (created-bad _ _ _ _ _ (rw (d .before .bytes-of3 .ensures) at (decimal-missed 12 _ (lit≤ tt) _ (sym (d .decimal .ensures .0) ∙ c .before .enum-told2 .given .1))))
 
 pub judge-spec : {M : Type 1} → statement M
 judge-spec =

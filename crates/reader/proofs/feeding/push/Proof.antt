@@ -14,8 +14,8 @@ push-head-requires c κs = search needs
 enum-told : tie.Need-enum-told
 enum-told c = search needs
 
-said-requires : tie.Need-said-requires
-said-requires c κs = search needs
+not-due-requires : tie.Need-not-due-requires
+not-due-requires c κs = search needs
 
 enum-known-phase-2 : tie.Need-enum-known-phase-2
 enum-known-phase-2 c = search needs
@@ -44,8 +44,8 @@ push-next-line-requires c κs = search needs
 enum-told-2 : tie.Need-enum-told-2
 enum-told-2 c = search needs
 
-said-requires-2 : tie.Need-said-requires-2
-said-requires-2 c κs = search needs
+not-due-requires-2 : tie.Need-not-due-requires-2
+not-due-requires-2 c κs = search needs
 
 enum-known-phase-6 : tie.Need-enum-known-phase-6
 enum-known-phase-6 c = search needs
@@ -56,14 +56,14 @@ push-trailer-requires c κs = search needs
 enum-told-3 : tie.Need-enum-told-3
 enum-told-3 c = search needs
 
-said-requires-3 : tie.Need-said-requires-3
-said-requires-3 c κs = search needs
+not-due-requires-3 : tie.Need-not-due-requires-3
+not-due-requires-3 c κs = search needs
 
 enum-told-4 : tie.Need-enum-told-4
 enum-told-4 c = search needs
 
-said-requires-4 : tie.Need-said-requires-4
-said-requires-4 c κs = search needs
+not-due-requires-4 : tie.Need-not-due-requires-4
+not-due-requires-4 c κs = search needs
 
 same-length : tie.Need-same-length
 same-length c = search needs
@@ -77,7 +77,7 @@ returns c = push-at _ _ _ _ _ _ (c .before .before .before .before .before .befo
 
 returns-2 : tie.Need-returns-2
 unfolding pushAt
-returns-2 c = push-at _ _ _ _ _ _ (c .before .enum-told .given .1) (rw (c .said .ensures))
+returns-2 c = push-at _ _ _ _ _ _ (c .before .enum-told .given .1) (rw (c .not-due .ensures))
 
 returns-3 : tie.Need-returns-3
 unfolding pushAt
@@ -109,7 +109,7 @@ returns-6 c = push-at _ _ _ _ _ _ (c .before .before .before .before .before .be
 
 returns-7 : tie.Need-returns-7
 unfolding pushAt
-returns-7 c = push-at _ _ _ _ _ _ (c .before .enum-told2 .given .1) (rw (c .said2 .ensures))
+returns-7 c = push-at _ _ _ _ _ _ (c .before .enum-told2 .given .1) (rw (c .not-due2 .ensures))
 
 same-length-7 : tie.Need-same-length-7
 same-length-7 c = search needs
@@ -120,11 +120,11 @@ returns-8 c = push-at _ _ _ _ _ _ (c .before .before .before .before .before .ph
 
 returns-9 : tie.Need-returns-9
 unfolding pushAt
-returns-9 c = push-at _ _ _ _ _ _ (c .before .enum-told3 .given .1) (rw (c .said3 .ensures))
+returns-9 c = push-at _ _ _ _ _ _ (c .before .enum-told3 .given .1) (rw (c .not-due3 .ensures))
 
 returns-10 : tie.Need-returns-10
 unfolding pushAt
-returns-10 c = push-at _ _ _ _ _ _ (c .before .enum-told4 .given .1) (rw (c .said4 .ensures))
+returns-10 c = push-at _ _ _ _ _ _ (c .before .enum-told4 .given .1) (rw (c .not-due4 .ensures))
 
 pub push-spec : {M : Type 1} → statement M
 push-spec =
@@ -133,7 +133,7 @@ push-spec =
     enum-known-phase
     push-head-requires
     enum-told
-    said-requires
+    not-due-requires
     enum-known-phase-2
     push-first-line-requires
     enum-known-phase-3
@@ -143,13 +143,13 @@ push-spec =
     enum-known-phase-5
     push-next-line-requires
     enum-told-2
-    said-requires-2
+    not-due-requires-2
     enum-known-phase-6
     push-trailer-requires
     enum-told-3
-    said-requires-3
+    not-due-requires-3
     enum-told-4
-    said-requires-4
+    not-due-requires-4
     same-length
     same-length-2
     returns

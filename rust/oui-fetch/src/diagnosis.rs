@@ -1,0 +1,193 @@
+//! What is said of a section whose text or length is refused: the cause in words with its offset in the stream, and the line
+//! that is at fault with a mark under the byte. The bytes are those of the sender and not verified, so what is shown of them
+//! is printable ASCII, and all else is escaped.
+
+use crate::excerpt;
+use ouinet_reader::{Section, SectionKind};
+use std::ops::Range;
+
+/// The most fields of a head.
+const MOST_FIELDS: usize = 64;
+
+pub struct Diagnosis {
+    /// The cause.
+    pub words: String,
+    /// The lines to show under it.
+    pub shown: Vec<String>,
+}
+
+/// The diagnosis of a section with its bytes, refused at this place. A place inside the section is where its text goes wrong. One
+/// at its end has another cause, which the bytes tell: it has no end, or else too many fields, or two of one name.
+pub fn of(section: &Section, bytes: &[u8], at: u64) -> Diagnosis {
+    match usize::try_from(at) {
+        Ok(at) if at < bytes.len() => wrong_text(section, bytes, at),
+        _ if section.kind == SectionKind::Head && bytes.ends_with(b"\r\n\r\n") => wrong_fields(bytes),
+        _ => no_end(section, bytes),
+    }
+}
+
+fn wrong_text(section: &Section, bytes: &[u8], at: usize) -> Diagnosis {
+    let line = Line::around(bytes, at);
+    let offset = section.start + at as u64;
+    let place = format!("at offset {offset} of the stream");
+    let in_lines = format!("{place} (line {}, column {})", line.number, at - line.range.start + 1);
+    let words = match section.kind {
+        SectionKind::Head => format!("the text of the head goes wrong {in_lines}"),
+        SectionKind::Trailer => format!("the text of the trailer goes wrong {in_lines}"),
+        SectionKind::ChunkLine => format!("the text of a chunk line goes wrong {place}"),
+        SectionKind::DataEnd => format!("a chunk's data is not followed by CR LF, {place}"),
+    };
+    let shown = excerpt::marked(&bytes[line.range.clone()], at - line.range.start..at - line.range.start + 1);
+    Diagnosis { words, shown: shown.to_vec() }
+}
+
+fn no_end(section: &Section, bytes: &[u8]) -> Diagnosis {
+    let start = section.start;
+    let words = match section.kind {
+        SectionKind::Head => "the head has no end within 8,192 bytes".to_string(),
+        SectionKind::Trailer => {
+            format!("the trailer, from offset {start} of the stream, has no end within 8,192 bytes")
+        }
+        _ => format!("the chunk line at offset {start} of the stream has no end within 128 bytes"),
+    };
+    Diagnosis { words, shown: vec![excerpt::beginning(bytes)] }
+}
+
+/// A head of good text.
+fn wrong_fields(head: &[u8]) -> Diagnosis {
+    let lines = Line::all(head);
+    // Neither the status line nor the empty line at the end is a field
+    let fields = &lines[1..lines.len() - 1];
+    if fields.len() > MOST_FIELDS {
+        let words = format!("the head has {} fields, and {MOST_FIELDS} are the most", fields.len());
+        return Diagnosis { words, shown: Vec::new() };
+    }
+    let Some((first, second)) = doubled(head, fields) else {
+        return Diagnosis { words: "the head has too many fields, or one twice".to_string(), shown: Vec::new() };
+    };
+    let words = format!("the head has one field twice, in lines {} and {}", first.number, second.number);
+    let line = &head[second.range.clone()];
+    Diagnosis { words, shown: excerpt::marked(line, 0..name(line).len()).to_vec() }
+}
+
+/// The first field whose name an earlier one has, and that one before it.
+fn doubled<'a>(head: &[u8], fields: &'a [Line]) -> Option<(&'a Line, &'a Line)> {
+    let name = |line: &Line| name(&head[line.range.clone()]);
+    fields.iter().enumerate().find_map(|(number, second)| {
+        let first = fields[..number].iter().find(|first| name(first).eq_ignore_ascii_case(name(second)))?;
+        Some((first, second))
+    })
+}
+
+/// What stands before a line's colon.
+fn name(line: &[u8]) -> &[u8] {
+    line.split(|&byte| byte == b':').next().unwrap_or(line)
+}
+
+/// A line of a section, with its CR LF if it has one.
+struct Line {
+    /// Counted from 1.
+    number: usize,
+    range: Range<usize>,
+}
+
+impl Line {
+    fn all(bytes: &[u8]) -> Vec<Line> {
+        let mut lines = Vec::new();
+        let mut start = 0;
+        while start < bytes.len() {
+            let end = bytes[start..].windows(2).position(|two| two == b"\r\n").map_or(bytes.len(), |at| start + at + 2);
+            lines.push(Line { number: lines.len() + 1, range: start..end });
+            start = end;
+        }
+        lines
+    }
+
+    /// The line that has the byte at this place.
+    fn around(bytes: &[u8], at: usize) -> Line {
+        let found = Line::all(bytes).into_iter().find(|line| line.range.contains(&at));
+        found.unwrap_or(Line { number: 1, range: 0..bytes.len() })
+    }
+}
+
+#[cfg(test)]
+mod tests {
+    use super::*;
+
+    fn section(kind: SectionKind, start: u64, bytes: &[u8]) -> Section {
+        Section { kind, start, length: bytes.len() as u64 }
+    }
+
+    fn check(kind: SectionKind, start: u64, bytes: &[u8], at: u64, words: &str, shown: &[&str]) {
+        let found = of(&section(kind, start, bytes), bytes, at);
+        assert_eq!(found.words, words);
+        assert_eq!(found.shown, shown);
+    }
+
+    #[test]
+    fn wrong_texts() {
+        check(
+            SectionKind::Head,
+            0,
+            b"HTTP/1.1 200 OK\r\nDate\0: now\r\n\r\n",
+            21,
+            "the text of the head goes wrong at offset 21 of the stream (line 2, column 5)",
+            &[r"    Date\x00: now\r\n", r"        ^^^^"],
+        );
+        check(
+            SectionKind::Head,
+            0,
+            b"HTTP/1.1 20\r\n\r\n",
+            11,
+            "the text of the head goes wrong at offset 11 of the stream (line 1, column 12)",
+            &[r"    HTTP/1.1 20\r\n", r"               ^^"],
+        );
+        check(
+            SectionKind::ChunkLine,
+            700,
+            b"5;OUISIG=\r\n",
+            2,
+            "the text of a chunk line goes wrong at offset 702 of the stream",
+            &[r"    5;OUISIG=\r\n", r"      ^"],
+        );
+        check(
+            SectionKind::DataEnd,
+            713,
+            b"\rX",
+            1,
+            "a chunk's data is not followed by CR LF, at offset 714 of the stream",
+            &[r"    \rX", r"      ^"],
+        );
+        check(
+            SectionKind::Trailer,
+            900,
+            b"A: b\r\n\tC\\d\n\r\n\r\n",
+            6,
+            "the text of the trailer goes wrong at offset 906 of the stream (line 2, column 1)",
+            &[r"    \tC\\d\n\r\n", r"    ^^"],
+        );
+    }
+
+    #[test]
+    fn without_an_end() {
+        let text = b"<!doctype html>\n<html lang=\"en\">\n".repeat(300);
+        let beginning = r#"    <!doctype html>\n<html lang="en">\n<!doctype html>\n<html lang="en">\n<!..."#;
+        check(SectionKind::Head, 0, &text[..8192], 8192, "the head has no end within 8,192 bytes", &[beginning]);
+        let words = "the trailer, from offset 77 of the stream, has no end within 8,192 bytes";
+        check(SectionKind::Trailer, 77, &text[..8192], 8192, words, &[beginning]);
+        let words = "the chunk line at offset 5 of the stream has no end within 128 bytes";
+        let shown = format!("    {}...", "f".repeat(72));
+        check(SectionKind::ChunkLine, 5, &b"f".repeat(128), 128, words, &[&shown]);
+    }
+
+    #[test]
+    fn counts_and_doublings() {
+        let fields: String = (0..66).map(|number| format!("f{number}: x\r\n")).collect();
+        let head = format!("HTTP/1.1 200 OK\r\n{fields}F2: y\r\n\r\n");
+        let whole = head.len() as u64;
+        check(SectionKind::Head, 0, head.as_bytes(), whole, "the head has 67 fields, and 64 are the most", &[]);
+        let head = b"HTTP/1.1 200 OK\r\nVary: x\r\nDate: now\r\nvARY: y\r\nDate:\r\n\r\n";
+        let words = "the head has one field twice, in lines 2 and 4";
+        check(SectionKind::Head, 0, head, head.len() as u64, words, &[r"    vARY: y\r\n", "    ^^^^"]);
+    }
+}
