@@ -20,16 +20,16 @@ const LINE_LIMIT: usize = 128;
 pub fn case(rng: &mut Rng) -> Case {
     let mut built = random::full_plan(rng).build();
     let (part, edits) = match rng.below(10) {
-        0..=3 => (0, &HEAD_EDITS[..]),
-        4..=6 => (any_line(&built, rng), &LINE_EDITS[..]),
-        7 => (*rng.pick(&built.places(Kind::DataEnd)), &DATA_END_EDITS[..]),
-        _ => (built.parts.len() - 1, &TRAILER_EDITS[..]),
+        0..=3 => (0, [&ANY[..], &LINES, &HEAD].concat()),
+        4..=6 => (any_line(&built, rng), [&ANY[..], &CHUNK_LINE].concat()),
+        7 => (*rng.pick(&built.places(Kind::DataEnd)), DATA_END.to_vec()),
+        _ => (built.parts.len() - 1, [&ANY[..], &LINES].concat()),
     };
     if built.parts[part].kind == Kind::Trailer {
         built.parts[part].bytes = trailer_with_fields(rng);
     }
     let count = if rng.one_in(4) { 2 } else { 1 };
-    let chosen: Vec<Edit> = (0..count).map(|_| *rng.pick(edits)).collect();
+    let chosen: Vec<Edit> = (0..count).map(|_| *rng.pick(&edits)).collect();
     for (_, edit) in &chosen {
         edit(&mut built.parts[part].bytes, rng);
     }
@@ -128,16 +128,12 @@ const BAD_LINE: Edit = ("a line that is no field", |text, rng| {
     text.splice(place..place, odd.iter().copied());
 });
 
-const HEAD_EDITS: [Edit; 13] = [
-    REPLACE,
-    INSERT,
-    DELETE,
-    LOSE_CR,
-    LOSE_LF,
-    MOVE_END,
-    STRETCH,
-    LONG_LINE,
-    BAD_LINE,
+/// Of any section but a data end, of heads and trailers, of heads, of chunk lines, and of data ends.
+const ANY: [Edit; 6] = [REPLACE, INSERT, DELETE, LOSE_CR, LOSE_LF, MOVE_END];
+
+const LINES: [Edit; 3] = [STRETCH, LONG_LINE, BAD_LINE];
+
+const HEAD: [Edit; 4] = [
     ("a byte of the status line replaced", |text, rng| text[rng.below(13)] = wrong_byte(rng)),
     ("a byte of the status line lost", |text, rng| {
         text.remove(rng.below(13));
@@ -160,15 +156,7 @@ const HEAD_EDITS: [Edit; 13] = [
     }),
 ];
 
-const TRAILER_EDITS: [Edit; 9] = [REPLACE, INSERT, DELETE, LOSE_CR, LOSE_LF, MOVE_END, STRETCH, LONG_LINE, BAD_LINE];
-
-const LINE_EDITS: [Edit; 10] = [
-    REPLACE,
-    INSERT,
-    DELETE,
-    LOSE_CR,
-    LOSE_LF,
-    MOVE_END,
+const CHUNK_LINE: [Edit; 4] = [
     ("a line stretched to about the limit", |text, rng| {
         let lacking = (LINE_LIMIT - 2 + rng.below(5)).saturating_sub(text.len());
         let place = rng.below(text.len() - 1);
@@ -189,7 +177,7 @@ const LINE_EDITS: [Edit; 10] = [
     }),
 ];
 
-const DATA_END_EDITS: [Edit; 5] = [REPLACE, REPLACE, INSERT, LOSE_CR, MOVE_END];
+const DATA_END: [Edit; 5] = [REPLACE, REPLACE, INSERT, LOSE_CR, MOVE_END];
 
 /// A byte that is wrong in most places.
 fn wrong_byte(rng: &mut Rng) -> u8 {
