@@ -44,15 +44,8 @@ pub fn push_trailer(r: Reader, block: &mut [u8], have: usize, total: u64, x: u8)
     ensures { λ s. ⌜ ((h q : List ℕ) → nextOf s h (now (block .exit)) q ≡ pushTrailer (configuration r h (now (block .entry)) q) have total x) ⌝ }
 {
     if block.len() <= have {
-        return refused(
-            r,
-            block,
-            have,
-            Refusal {
-                number: 6,
-                at: TRAILER_LIMIT,
-            },
-        );
+        let at = TRAILER_LIMIT;
+        return refused(r, block, have, Refusal { number: 6, at });
     }
     block[have] = x;
     let next = have + 1;

@@ -88,10 +88,9 @@ fn judge_case(label: &[u8], head: &[u8], ring: KeyRing, question: &mut [u8; 8192
     say(b"\n");
 }
 
-// With 3 goes the place where the text went wrong.
 fn say_refused(why: Refusal) {
     say_number(b" refused ", wide(why.number));
-    if why.number == 3 {
+    if refusals::has_place(why.number) {
         say_count(b" at ", why.at);
     }
 }

@@ -52,13 +52,10 @@ pub fn hex(s: &[u8], most: usize) -> Number
 fn whole(length: usize, d: Digits) -> Number
     ensures { λ r. ⌜ r ≡ wholeRead length d ⌝ }
 {
-    if d.count < 1 {
-        return Number::Bad(d.count);
+    if (1 <= d.count) & (length <= d.count) {
+        return Number::Value(d.value);
     }
-    if d.count < length {
-        return Number::Bad(d.count);
-    }
-    Number::Value(d.value)
+    Number::Bad(d.count)
 }
 
 // How many digits of a decimal may be taken: at most 19, and where the first is 0, no more than `zeros`.

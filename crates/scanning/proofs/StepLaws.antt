@@ -38,11 +38,11 @@ module _ (s : State) (b : ℕ) (o : Option Form) where
     line-arm e q f = f ∙ rw (e, q)
 
     pub lines-arm : s ≡ Lines → u ≡ isTchar b → o ≡ orElse (when (eqb b 13) (feedForm false)) (when u (fieldNameForm true)) → o ≡ stepForm (formAt s) b
-    unfolding stepForm trailerForm fieldLineForm fieldForm feedForm fieldNameForm valueForm
+    unfolding stepForm trailerForm fieldLineForm fieldForm nameForm feedForm fieldNameForm valueForm
     lines-arm e q f = f ∙ rw (e, q, then-when (isTchar b))
 
     pub field-arm : s ≡ Field → u ≡ isTchar b → o ≡ when u (fieldNameForm false) → o ≡ stepForm (formAt s) b
-    unfolding stepForm fieldLineForm fieldForm fieldNameForm valueForm
+    unfolding stepForm fieldLineForm fieldForm nameForm fieldNameForm valueForm
     field-arm e q f = f ∙ rw (e, q)
 
     pub field-name-arm : (follows : Bool) → s ≡ FieldName follows → u ≡ isTchar b → o ≡ orElse (when (eqb b 58) (valueForm follows)) (when u (fieldNameForm follows)) → o ≡ stepForm (formAt s) b

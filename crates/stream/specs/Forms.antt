@@ -75,7 +75,7 @@ nameForm = one nameByte (many isTchar done)
 
 -- "name of one or more `tchar`, colon, value"
 unfoldable pub fieldForm : Form
-fieldForm = one nameByte (many isTchar (text (octets ":") (many isText done)))
+fieldForm = after nameForm (text (octets ":") (many isText done))
 
 unfoldable pub fieldLineForm : Form
 fieldLineForm = after fieldForm (text crlf done)

@@ -12,7 +12,7 @@ use Rattle.scanner.proofs.Parts.{one-accepts, one-nil}
 use Rattle.stream.specs.Bytes.{isDigit, isTchar, isText}
 use Rattle.stream.specs.Lines.{fieldScan, isFieldLine, statusScan, isStatusLine}
 use Rattle.stream.specs.Template.{Part, text as fixed, bytes, Scanned, parts, unlike, keep, kept, scan, isLike, run, past, startsWith}
-use Rattle.stream.specs.Forms.{nameByte, digit, fieldForm, statusForm}
+use Rattle.stream.specs.Forms.{nameByte, digit, nameForm, fieldForm, statusForm}
 use Rattle.classes.proofs.RunLaws.{run-cons}
 use Rattle.text.proofs.SameLaws.{both-false, both-true}
 use Rattle.text_forms.proofs.Parts.{Apart, apart-text, apart-done, text-accepts, more-accepts, past-on, past-off}
@@ -29,7 +29,7 @@ afterName : List Part
 afterName = fixed (octets ":") ∷ bytes isText ∷ []
 
 pub field-accepts : (l : List ℕ) → isFieldLine l ≡ acceptsForm fieldForm l
-unfolding isFieldLine fieldScan scan fieldForm afterName formOf
+unfolding isFieldLine fieldScan scan fieldForm nameForm afterName formOf
 field-accepts l =
     kept-first (λ r. leb 1 (length r)) (run isTchar l) (scan afterName (past isTchar l))
     ∙ rw (scan-accepts afterName (apart-done isText, tt) (past isTchar l))

@@ -13,7 +13,7 @@ use Rattle.scanner.specs.Form.{acceptsForm, reachForm}
 use Rattle.scanner.proofs.Every.{every}
 use Rattle.scanner.proofs.Longest.{ofBytes, form-longest, form-whole}
 use Rattle.scanner.proofs.Parts.{one-nil}
-use Rattle.stream.specs.Forms.{fieldForm, fieldLineForm, statusForm, trailerForm, headForm}
+use Rattle.stream.specs.Forms.{nameForm, fieldForm, fieldLineForm, statusForm, trailerForm, headForm}
 use Rattle.stream.specs.GoodText.{endsFirst, isGoodHead}
 use Rattle.stream.specs.Head.{endsHead}
 use Rattle.stream.specs.Lines.{crlf, textLines, isStatusLine, areFieldLines}
@@ -88,7 +88,7 @@ head-accepts l = alike (isGoodHead l) (acceptsForm headForm l) to from
         rw (end-first endsHead l f) (head-equal l f ∙ a)
 
 head-bytes : ofBytes headForm ≡ true
-unfolding every headForm statusForm trailerForm fieldLineForm fieldForm
+unfolding every headForm statusForm trailerForm fieldLineForm fieldForm nameForm
 head-bytes = refl
 
 pub head-longest : (l : List ℕ) → LongestViable isGoodHead l (reachForm headForm l)

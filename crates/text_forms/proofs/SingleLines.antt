@@ -58,7 +58,7 @@ name-longest l = form-longest nameForm name-bytes isName name-accepts l
 -- ---- a field line
 
 pub field-free : free 13 fieldForm ≡ true
-unfolding every fieldForm
+unfolding every fieldForm nameForm
 field-free = refl
 
 pub field-line-accepts : (l : List ℕ) → isGoodFieldLine l ≡ acceptsForm fieldLineForm l
@@ -66,7 +66,7 @@ unfolding isGoodFieldLine fieldLineForm
 field-line-accepts l = sym (ends-accepts fieldForm field-free l ∙ rw (field-accepts (take (length l - 2) l)))
 
 field-line-bytes : ofBytes fieldLineForm ≡ true
-unfolding every fieldLineForm fieldForm
+unfolding every fieldLineForm fieldForm nameForm
 field-line-bytes = refl
 
 pub field-line-longest : (l : List ℕ) → LongestViable isGoodFieldLine l (reachForm fieldLineForm l)

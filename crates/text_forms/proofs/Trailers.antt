@@ -19,7 +19,7 @@ use Rattle.scanner.proofs.Joined.{step-first, then-assoc}
 use Rattle.scanner.proofs.Longest.{ofBytes, form-longest, form-whole}
 use Rattle.scanner.proofs.Parts.{one-accepts, one-nil, done-accepts, done-nil}
 use Rattle.stream.specs.Bytes.{same, isTchar, isText}
-use Rattle.stream.specs.Forms.{nameByte, fieldForm, fieldLineForm, trailerForm}
+use Rattle.stream.specs.Forms.{nameByte, nameForm, fieldForm, fieldLineForm, trailerForm}
 use Rattle.stream.specs.GoodText.{endsFirst, isGoodTrailer}
 use Rattle.stream.specs.Lines.{crlf, endsWith, lines, beforeEmpty, textLines, areFieldLines, isFieldLine}
 use Rattle.stream.specs.Template.{startsWith}
@@ -64,7 +64,7 @@ module _ (f : Form) where
 
 -- anything else begins with a field line
 trailer-line : (l : List ℕ) → startsWith crlf l ≡ false → acceptsForm trailerForm l ≡ acceptsForm lineForm l
-unfolding lineForm trailerForm fieldLineForm linesForm fieldForm
+unfolding lineForm trailerForm fieldLineForm linesForm fieldForm nameForm
 trailer-line [] e = trailer-nil ∙ sym (line-nil trailerForm fieldForm field-free)
 trailer-line (b ∷ l) e = go (eqb b 13) refl
   where
@@ -200,7 +200,7 @@ trailer-accepts l = alike (isGoodTrailer l) (acceptsForm trailerForm l) to from
         rw (end-first endsTrailer l f) (trailer-equal (length l) l (omega arith) f ∙ a)
 
 trailer-bytes : ofBytes trailerForm ≡ true
-unfolding every trailerForm fieldLineForm fieldForm
+unfolding every trailerForm fieldLineForm fieldForm nameForm
 trailer-bytes = refl
 
 pub trailer-longest : (l : List ℕ) → LongestViable isGoodTrailer l (reachForm trailerForm l)
