@@ -24,6 +24,7 @@ struct told {
     uint64_t place;
     uint64_t body;
     unsigned answers;
+    int accepted;
     int over;
 };
 
@@ -119,6 +120,27 @@ static void check_place(uint64_t taken) {
     }
 }
 
+/* How many lines of the head have that name: no more than a head may have, and none from buffers that are too short. */
+static size_t line_count(const char *name) {
+    const struct lent *l = lent();
+    const uint8_t *bytes = (const uint8_t *)name;
+    size_t length = strlen(name), state = OUINET_READER_STATE_SIZE, head = OUINET_READER_HEAD_SIZE;
+    size_t count = ouinet_reader_value_count(l->state, state, l->head, head, bytes, length);
+    must(count <= OUINET_READER_FIELD_LIMIT, "a name has no more lines than a head may have");
+    must(ouinet_reader_value_count(l->state, state - 1, l->head, head, bytes, length) == 0, "a short state has no lines");
+    must(ouinet_reader_value_count(l->state, state, l->head, head - 1, bytes, length) == 0, "a short head has no lines");
+    return count;
+}
+
+/* The lines of a name that each head has once, of one that it may have often, and of one that is no field. */
+static void tell_lines(struct told *told) {
+    uint8_t vary = (uint8_t)line_count("vary");
+    must(line_count("X-Ouinet-URI") == (told->accepted ? 1 : 0), "an accepted head has its URI once");
+    must(vary == 0 || told->accepted, "no other head has lines");
+    must(line_count("(created)") == 0, "a name in brackets has no line");
+    digest(told, &vary, 1);
+}
+
 /* The word with all it carries, and what is handed out after it. */
 static void tell(struct told *told, uint8_t word) {
     static const uint8_t uri[] = "X-Ouinet-URI";
@@ -141,7 +163,9 @@ static void tell(struct told *told, uint8_t word) {
                                             sizeof uri - 1, value, sizeof value);
         must(length > 0 && length <= sizeof value, "an accepted head has its URI");
         digest(told, value, length);
+        told->accepted = 1;
     }
+    tell_lines(told);
     digest(told, (const uint8_t *)&told->place, sizeof told->place);
     digest(told, &word, 1);
     digest(told, l->result + OUINET_READER_RESULT_FIRST, OUINET_READER_RESULT_SIZE - OUINET_READER_RESULT_FIRST);
@@ -171,7 +195,7 @@ static void piece(const struct plan *plan, struct told *told, const uint8_t *byt
 /* Reads a stream to its last event, in pieces of so many bytes at most. */
 static struct told read_stream(const struct plan *plan, const uint8_t *bytes, size_t size, size_t most) {
     static const struct plan enough = {0, 0, 0};
-    struct told told = {0xcbf29ce484222325u, 0, 0, 0, 0};
+    struct told told = {0xcbf29ce484222325u, 0, 0, 0, 0, 0};
     uint32_t seed = plan->cuts + 1u;
     must(ouinet_reader_fresh(lent()->state, OUINET_READER_STATE_SIZE) == 0, "a fresh state");
     while (told.place < size && !told.over) {
@@ -205,6 +229,8 @@ static void forged(const struct plan *plan, const uint8_t *bytes, size_t size) {
         must(word != OUINET_READER_QUESTION || first_number() <= OUINET_READER_QUESTION_SIZE, "so does a question");
         must(word != OUINET_READER_BLOCK || second_number() <= OUINET_READER_BLOCK_SIZE, "and the block that a word names");
         must(word != OUINET_READER_REFUSED || second_number() <= OUINET_READER_BLOCK_SIZE, "and the place of a refusal");
+        line_count("X-Ouinet-URI");
+        line_count("vary");
         feature_of_word(word, first_number());
         bytes += taken;
         size -= taken;

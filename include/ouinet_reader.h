@@ -56,6 +56,9 @@ extern "C" {
 #define OUINET_READER_BLOCK_SIZE 65536
 #define OUINET_READER_QUESTION_SIZE 8192
 
+/* The most field lines that an accepted head has, and so the most that ouinet_reader_value_count gives. */
+#define OUINET_READER_FIELD_LIMIT 64
+
 /* ---- the key ring
  *
  * Its records one after the other, in the order in which they are searched. It may be empty. A length that is no multiple of a
@@ -93,13 +96,16 @@ extern "C" {
  * OUINET_READER_BAD_HEAD and OUINET_READER_BAD_FRAME have a place, the second number of the result, counted from the first byte of the head, chunk
  * line, end of data or trailer. Where its text is wrong, the place is the length of the longest beginning that some good text has too, however
  * long as a whole and with its line ends: the byte there is the first that cannot stand where it does. Where the cause is another one
- * (no end within the limit, over 64 fields, a name doubled), the place is the length of the section as far as it was taken. No end goes before
- * wrong text, and that before fields. With all other refusals the second number is 0.
+ * (no end within the limit, over 64 field lines, a field twice that may come only once), the place is the length of the section as far as it was
+ * taken. No end goes before wrong text, and that before fields. With all other refusals the second number is 0.
+ *
+ * A field may come only once if its name begins X-Ouinet- or is Content-Length or Transfer-Encoding, in any case. All others may be
+ * repeated; of one that is signed the signature covers the values of all its lines.
  */
 
 #define OUINET_READER_NOT_DUE 1       /* feed or end with a question open; answer with none open; any call after a final word */
 #define OUINET_READER_NO_ROOM 2       /* head, block or question buffer too short, or the ring's length wrong; tested before 1 */
-#define OUINET_READER_BAD_HEAD 3      /* head text wrong, longer than 8,192 bytes, over 64 fields, or a name doubled */
+#define OUINET_READER_BAD_HEAD 3      /* head text wrong, longer than 8,192 bytes, over 64 field lines, or a field twice that may come only once */
 #define OUINET_READER_HEAD_RULE 4     /* a rule of heads is broken, other than those of 3, 5 and 12 */
 #define OUINET_READER_BAD_VERSION 5   /* the version is there, and is not 4 */
 #define OUINET_READER_BAD_FRAME 6     /* chunk line, end of data or trailer wrong or too long */
@@ -136,6 +142,7 @@ extern "C" {
  *     the length of a block in a result, and what ouinet_reader_block gives, is at most OUINET_READER_BLOCK_SIZE, and at most the
  *     block buffer's;
  *     what ouinet_reader_value gives is at most OUINET_READER_HEAD_SIZE, and at most the head buffer's length;
+ *     what ouinet_reader_value_count gives is at most OUINET_READER_FIELD_LIMIT;
  *     no byte of these buffers beyond the three sizes is read or written.
  *
  * But what such a state hands out proves nothing, and the number of a key's record is what the state says: hold it against the ring before
@@ -186,12 +193,20 @@ uint8_t ouinet_reader_end(uint8_t *state, size_t state_len, uint8_t *head, size_
 size_t ouinet_reader_block(const uint8_t *state, size_t state_len, const uint8_t *block, size_t block_len);
 
 /*
- * The value of a signed field of the accepted head, its name in any case. Returns the value's length, and copies it to the front
- * of `value` where it fits whole; else nothing is copied. 0 for a field that is not signed, before the head is accepted, and where a
- * buffer is too short.
+ * The value of a signed field of the accepted head, its name in any case; where the head has several lines of that name, the first
+ * line's. Returns the value's length, and copies it to the front of `value` where it fits whole; else nothing is copied. 0 for a field
+ * that is not signed, before the head is accepted, and where a buffer is too short.
  */
 size_t ouinet_reader_value(const uint8_t *state, size_t state_len, const uint8_t *head, size_t head_len, const uint8_t *name,
                            size_t name_len, uint8_t *value, size_t value_len);
+
+/*
+ * How many lines of the accepted head have the name of a signed field, in any case: 1, or more where the field is repeated. An empty
+ * value is a line too, and commas in a value are not looked at. 0 for a field that is not signed, before the head is accepted, and
+ * where a buffer is too short.
+ */
+size_t ouinet_reader_value_count(const uint8_t *state, size_t state_len, const uint8_t *head, size_t head_len, const uint8_t *name,
+                                 size_t name_len);
 
 #ifdef __cplusplus
 }

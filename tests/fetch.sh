@@ -1,6 +1,7 @@
 #!/usr/bin/env bash
-# Signer, relay and oui-fetch together, with real Ed25519: what is sent is what comes out, however it is cut; a stream that is cut off,
-# changed on its way or signed by someone else is refused, and leaves only its verified beginning; where a text went wrong is told and shown.
+# Signer, relay and oui-fetch together, with real Ed25519: what is sent is what comes out, however it is cut, with repeated fields too; a stream
+# that is cut off, changed on its way or signed by someone else is refused, and leaves only its verified beginning; where a text went wrong is told
+# and shown.
 set -uo pipefail
 shopt -s lastpipe # so that a fetch at the end of a pipe can set its status
 cd "$(dirname "$0")/.."
@@ -66,6 +67,31 @@ oui-sign sign key ring --uri $'show\r\nA: b' -o none 2>said
 expect 'a line end in a value' test $? -eq 2 -a ! -e none -a "$(cat said)" = "oui-sign: --uri: \\r at offset 4 may not stand in a field's value"
 oui-sign sign key ring --type 'text/plain ' -o none 2>said
 expect 'a blank at the end of a value' test $? -eq 2 -a ! -e none -a "$(cat said)" = "oui-sign: --type: a field's value has no blanks at its ends"
+oui-sign sign key ring --header $'Via: \xe9' -o none 2>said
+expect 'a word that is no UTF-8' test $? -eq 2 -a ! -e none -a "$(grep -c 'no UTF-8' said)" = 1
+
+# not_signed WORDS HEADER..: whether these further fields are refused with just these words, and nothing is written.
+not_signed() {
+    local words=$1 given=() header
+    shift
+    for header in "$@"; do given+=(--header "$header"); done
+    oui-sign sign key ring "${given[@]}" -o none 2>said
+    [ $? -eq 2 ] && [ ! -e none ] && [ "$(cat said)" = "oui-sign: $words" ]
+}
+
+expect 'a field without a colon' not_signed "--header: \"Vary\" has no colon; write 'Name: value'" 'Via: x' Vary
+expect 'a field without a name' not_signed '--header: a field needs a name before its colon' ': x'
+expect 'a blank in a name' not_signed "--header: ' ' at offset 4 may not stand in a field's name" 'Vary : x'
+expect 'a line end in a field' not_signed "--header Vary: \\n at offset 1 may not stand in a field's value" $'Vary: a\nB: c'
+for name in X-Ouinet-Foo x-ouinet- CONTENT-length Transfer-Encoding; do
+    expect "$name" not_signed "--header: $name belongs to the format of signed streams and cannot be given" "$name: 5"
+done
+expect 'a type' not_signed '--header: content-TYPE is set by --type' 'content-TYPE: text/plain'
+expect 'a value that is too long' not_signed 'the head has 8677 bytes, and 8192 are the most' "Via: $(printf '%08000d' 0)" 'Via: x'
+fields=() names=()
+for i in $(seq 58); do fields+=("Via: $i") names+=("N$i: x"); done
+expect 'a field too many' not_signed 'the head has 65 fields, and 64 are the most' "${fields[@]}"
+expect 'a name too many' not_signed 'the head has 33 signed names, and 32 are the most' "${names[@]:0:26}"
 
 # What is sent comes out
 seed=0
@@ -77,6 +103,45 @@ for lengths in 0:5 1:1 5:5 12:5 1000:1 65536:65536 65537:65536 200000:1000 10485
     expect "${lengths%:*} bytes in blocks of ${lengths#*:}" ended 0 "closed: ${lengths%:*} bytes"
     expect "the same ${lengths%:*} bytes" cmp -s show got
 done
+
+# Fields that are repeated
+head -c 3000 /dev/urandom >show
+oui-sign sign key show -o good --block-size 1000 --header 'Vary: Accept' --header 'Via: 1.1 first' --header vary: \
+    --header 'Via: 1.1 second' --header 'VARY:  Cookie, Origin '
+expect 'repeated fields are signed' test $? -eq 0
+expect 'each name is listed once' grep -aq ' x-ouinet-bsigs vary via",signature=' good
+expect 'and has its lines' test "$(LC_ALL=C sed '/^\r/q' good | grep -aicE '^(vary|via):')" -eq 5
+for most in 1 2 9 400; do
+    oui-relay --seed "$most" --most "$most" <good | fetch
+    expect "repeated fields in pieces of $most at most" ended 0 'closed: 3000 bytes in 3 blocks'
+    expect "their show in pieces of $most at most" cmp -s show got
+done
+
+given=()
+for field in "${fields[@]:0:57}"; do given+=(--header "$field"); done
+oui-sign sign key show --block-size 1000 "${given[@]}" | oui-relay --most 50 | fetch
+expect 'as many lines of a name as can be' ended 0 'closed: 3000 bytes in 3 blocks'
+
+# reached STATUS WORDS SED..: how a fetch ends of the stream with an edit of its head.
+reached() {
+    local status_due=$1 words=$2
+    shift 2
+    { LC_ALL=C sed '/^\r/q' good | LC_ALL=C sed "$@"; LC_ALL=C sed '1,/^\r/d' good; } >stream
+    oui-relay --most 60 <stream | fetch
+    ended "$status_due" "$words" && ! cmp -s good stream
+}
+
+wrong='refused 10: a signature is wrong'
+expect 'a name written otherwise' reached 0 closed 's/^VARY:/Vary:/'
+expect 'other blanks' reached 0 closed 's/^Via: /Via:\t  /'
+expect 'lines of two names in another order' reached 0 closed '/^Vary:/{h;d};/^Via: 1.1 first/G'
+expect 'values that were joined on the way' reached 0 closed '/^Via: 1.1 second/d;s/^Via: 1.1 first/&, 1.1 second/'
+expect 'lines of one name in another order' reached 1 "$wrong" '/^Via: 1.1 first/{h;d};/^Via: 1.1 second/G'
+expect 'a changed value behind the first' reached 1 "$wrong" 's/^Via: 1.1 second/Via: 1.1 Second/'
+expect 'a line too few' reached 1 "$wrong" '/^Via: 1.1 second/d'
+expect 'an empty line of a name too few' reached 1 "$wrong" '/^vary:/d'
+expect 'a line too many' reached 1 "$wrong" 's/^VARY/vary: Range\r\n&/'
+expect 'values joined without a space' reached 1 "$wrong" '/^Via: 1.1 second/d;s/^Via: 1.1 first/&,1.1 second/'
 
 # By other ways
 head -c 300000 /dev/urandom >show
@@ -158,8 +223,20 @@ spoil "s|^$uri|$uri$long~$long|;s/~/\\x7f/"
 expect 'a byte far into a line' told \
     'refused 3: the text of the head goes wrong at offset 276 of the stream (line 3, column 239); nothing was verified' \
     "...${long:0:30}\\x7f${long:0:38}..." '                                 ^^^^'
+spoil '2s/$/\nX-Ouinet-A: 1\r\nDate: now\r\nx-oUINET-a: 2\r/'
+expect 'a field of ours twice' told \
+    'refused 3: the head has x-oUINET-a twice, in lines 3 and 5, and may have it only once; nothing was verified' \
+    'x-oUINET-a: 2\r\n' '^^^^^^^^^^'
+spoil '2s/$/\nVary: a\r\nVary: b\r/;/^Transfer-Encoding/p'
+expect 'a coding twice, and a field that may be' told \
+    'refused 3: the head has Transfer-Encoding twice, in lines 10 and 11, and may have it only once; nothing was verified' \
+    'Transfer-Encoding: chunked\r\n' '^^^^^^^^^^^^^^^^^'
+spoil '2s/$/\nContent-Length: 12\r\nContent-Length: 12\r/'
+expect 'a length twice' told \
+    'refused 3: the head has Content-Length twice, in lines 3 and 4, and may have it only once; nothing was verified' \
+    'Content-Length: 12\r\n' '^^^^^^^^^^^^^^'
 spoil '2s/$/\nVary: a\r\nDate: now\r\nvARY: b\r/'
-expect 'a field twice' told 'refused 3: the head has one field twice, in lines 3 and 5; nothing was verified' 'vARY: b\r\n' '^^^^'
+expect 'a field twice that is not signed' ended 0 'closed: 12 bytes in 3 blocks'
 many=$(for i in $(seq 60); do printf 'F%d:\\r\\n' "$i"; done)
 spoil "2s/^/$many/"
 expect 'too many fields' told 'refused 3: the head has 67 fields, and 64 are the most; nothing was verified'

@@ -1,7 +1,8 @@
 /*
  * include/ouinet_reader.h and the library behind it, from C: the example stream of crates/ouiread/data goes through in pieces of one
- * size, and what is said must be the lines of crates/ouiread/stdout; then wrong texts, and the place that is told of each; then the sizes that
- * the header names, each beside one that is one byte short; then forged states, in buffers that are longer than named and marked beyond.
+ * size, and what is said must be the lines of crates/ouiread/stdout; then wrong texts, and the place that is told of each; then heads with repeated
+ * fields; then the sizes that the header names, each beside one that is one byte short; then forged states, in buffers that are longer than named
+ * and marked beyond.
  * tests/header.sh builds and runs it. Its last line is 'N passed, M failed'.
  */
 #include "ouinet_reader.h"
@@ -159,6 +160,11 @@ static void look_inside(const uint8_t *stream, size_t length) {
     expect("no is refusal 10", answer(0) == OUINET_READER_REFUSED && number(result + OUINET_READER_RESULT_FIRST) == OUINET_READER_BAD_SIGNATURE);
 }
 
+/* How many lines of the accepted head have a signed field's name. */
+static size_t line_count(const char *name) {
+    return ouinet_reader_value_count(state, STATE, head, sizeof head, (const uint8_t *)name, strlen(name));
+}
+
 static void look_up_values(void) {
     const char *type = "content-TYPE", *unsigned_field = "X-Ouinet-Sig0";
     uint8_t value[64];
@@ -171,6 +177,8 @@ static void look_up_values(void) {
     expect("one that is not signed", ouinet_reader_value(state, STATE, head, sizeof head, (const uint8_t *)unsigned_field, strlen(unsigned_field), value, sizeof value) == 0);
     expect("of too short a state", ouinet_reader_value(state, STATE - 1, head, sizeof head, (const uint8_t *)type, strlen(type), value, sizeof value) == 0);
     expect("of too short a head buffer", ouinet_reader_value(state, STATE, head, sizeof head - 1, (const uint8_t *)type, strlen(type), value, sizeof value) == 0);
+    expect("one line of a signed field", line_count(type) == 1);
+    expect("none of one that is not signed", line_count(unsigned_field) == 0);
 }
 
 /* ---- where a text went wrong */
@@ -217,7 +225,10 @@ static void find_places(const char *stream, size_t piece) {
         unsigned place;
     } heads[] = {{"\r\n\r\n", 0}, {"HTTP/1.0 200 OK\r\n\r\n", 7}, {"HTTP/1.1 20\r\n\r\n", 11}, {"HTTP/1.1 2000 OK\r\n\r\n", 12},
                  {"HTTP/1.1 200 OK\r\nA: b\rc\r\n\r\n", 22}, {"HTTP/1.1 200 OK\r\nA: b\nc\r\n\r\n", 21}, {"HTTP/1.1 200 OK\r\n\rA: b\r\n\r\n", 18},
-                 {"HTTP/1.1 200 OK\r\nA:\r\na:\r\n\r\n", 27}, {"HTTP/1.1 200 OK\r\nA:\r\na:\r\nB\r\n\r\n", 26}},
+                 {"HTTP/1.1 200 OK\r\nX-Ouinet-A:\r\nx-ouinet-a:\r\n\r\n", 45}, {"HTTP/1.1 200 OK\r\nx-ouinet-:\r\nA:\r\nX-OUINET-:\r\n\r\n", 47},
+                 {"HTTP/1.1 200 OK\r\nContent-Length:\r\ncontent-length:\r\n\r\n", 53},
+                 {"HTTP/1.1 200 OK\r\nTransfer-Encoding:\r\nTRANSFER-ENCODING:\r\n\r\n", 59},
+                 {"HTTP/1.1 200 OK\r\nA:\r\na:\r\nB\r\n\r\n", 26}, {"HTTP/1.1 200 OK\r\nX-Ouinet-A:\r\nx-ouinet-a:\r\nB\r\n\r\n", 44}},
       lines[] = {{"\r\n", 0}, {"5 \r\n", 1}, {"5\r\r\n", 2}, {"000000005\r\n", 8}, {"5;OUISIG=\r\n", 2}, {"5;ouisig=\r\n", 9}},
       ends[] = {{"XY", 0}, {"\rX", 1}}, trailers[] = {{"\rA: b\r\n\r\n", 1}, {"A: b\r\nC d\r\n\r\n", 7}, {"A\r\n\r\n", 1}};
     size_t body = (size_t)(strstr(stream, "\r\n\r\n") - stream) + 4, i;
@@ -238,6 +249,88 @@ static void find_places(const char *stream, size_t piece) {
     refuse(front, body + 3, many, 8192, piece, OUINET_READER_BAD_FRAME, 8192);
     memcpy(many + 126, "\r\n", 2);
     refuse(stream, body, many, 128, piece, OUINET_READER_BAD_FRAME, 0);
+}
+
+/* ---- repeated fields */
+
+/* The example's head with these lines behind its status line, and these words behind its last listed name. Its length. */
+static size_t head_with(char *to, const char *stream, const char *lines, const char *listed) {
+    const char *first = strstr(stream, "\r\n") + 2, *last = strstr(stream, "content-type\"") + strlen("content-type"), *after = strstr(stream, "\r\n\r\n") + 4;
+    return (size_t)sprintf(to, "%.*s%s%.*s%s%.*s", (int)(first - stream), stream, lines, (int)(last - first), first, listed, (int)(after - last), last);
+}
+
+/* So many times the same line. */
+static const char *lines_of(const char *line, int times) {
+    static char lines[2048];
+    *lines = 0;
+    while (times-- > 0)
+        strcat(lines, line);
+    return lines;
+}
+
+/* Feeds a head in pieces, up to its question. */
+static int is_asked(const char *text, size_t length, size_t piece) {
+    size_t at = 0;
+    uint8_t word = OUINET_READER_MORE;
+    ouinet_reader_fresh(state, STATE);
+    for (; at < length && word == OUINET_READER_MORE; at += (size_t)number(result + OUINET_READER_RESULT_TAKEN))
+        word = feed((const uint8_t *)text + at, length - at < piece ? length - at : piece);
+    return word == OUINET_READER_QUESTION && at == length;
+}
+
+/* Whether the message of the open question ends so. */
+static int asks_of(const char *text) {
+    size_t length = (size_t)number(result + OUINET_READER_RESULT_FIRST);
+    return length >= strlen(text) && !memcmp(question + length - strlen(text), text, strlen(text));
+}
+
+static void count_lines(const char *stream, size_t piece) {
+    const uint8_t *vary = (const uint8_t *)"vary", *via = (const uint8_t *)"VIA";
+    char text[4096];
+    uint8_t value[64] = {0}, before[STATE];
+    size_t length = head_with(text, stream, "Vary:\r\nvary: b\r\nVia: 1.1 x\r\nAge: 1\r\nAge: 2\r\nVARY: \t c, d \r\nvia: 1.1 y\r\n", " vary via");
+    expect("a head with repeated fields asks", is_asked(text, length, piece));
+    expect("about their joined values", asks_of("\ncontent-type: text/plain\nvary: , b, c, d\nvia: 1.1 x, 1.1 y"));
+    expect("before a yes nothing is counted", line_count("vary") == 0 && line_count("date") == 0);
+    expect("it is accepted", answer(1) == OUINET_READER_HEAD);
+    memcpy(before, state, STATE);
+    expect("lines are counted, whatever the name's case", line_count("vary") == 3 && line_count("VaRy") == 3 && line_count("via") == 2);
+    expect("a field that is not repeated has one", line_count("Date") == 1 && line_count("x-ouinet-URI") == 1);
+    expect("one that is not signed has none", line_count("age") == 0 && line_count("X-Ouinet-Sig0") == 0 && line_count("Transfer-Encoding") == 0);
+    expect("nor has a name in brackets", line_count("(created)") == 0 && line_count("(response-status)") == 0);
+    expect("or in no line", line_count("var") == 0 && line_count("vary ") == 0 && line_count("nowhere") == 0 && line_count("") == 0);
+    expect("the value is the first line's", ouinet_reader_value(state, STATE, head, sizeof head, via, 3, value, sizeof value) == 5 && !memcmp(value, "1.1 x", 6));
+    expect("which may be empty", ouinet_reader_value(state, STATE, head, sizeof head, vary, 4, value, sizeof value) == 0);
+    expect("no count of too short a state", ouinet_reader_value_count(state, STATE - 1, head, sizeof head, vary, 4) == 0);
+    expect("nor of too short a head buffer", ouinet_reader_value_count(state, STATE, head, sizeof head - 1, vary, 4) == 0);
+    expect("counting changes nothing", !memcmp(state, before, STATE) && !memcmp(head, text, length));
+    expect("after the end it is the same", end() == OUINET_READER_REFUSED && line_count("vary") == 3);
+    expect("a no hands nothing out", is_asked(text, length, piece) && answer(0) == OUINET_READER_REFUSED && line_count("vary") == 0);
+    length = head_with(text, stream, lines_of("Vary: x\r\n", 55), " vary");
+    expect("64 lines are counted", is_asked(text, length, piece) && answer(1) == OUINET_READER_HEAD && line_count("vary") == 55);
+    length = head_with(text, stream, lines_of("Vary: x\r\n", 56), " vary");
+    refuse("", 0, text, length, piece, OUINET_READER_BAD_HEAD, length);
+    length = head_with(text, stream, "Vary: a\r\nVary: b\r\n", " vary VARY");
+    refuse("", 0, text, length, piece, OUINET_READER_HEAD_RULE, 0);
+}
+
+/* A state that says that the head in the buffer, with so many lines more, was accepted. */
+static void forge_accepted(const char *stream, int lines) {
+    char text[4096];
+    size_t length = head_with(text, stream, lines_of("Vary: x\r\n", lines), " vary");
+    memcpy(head, text, length);
+    ouinet_reader_fresh(state, STATE);
+    ouinet_reader_put_number(state + 24, length);
+}
+
+/* Heads that were never judged: a good one is counted, and of one with too many lines nothing is handed out. */
+static void count_forged_lines(const char *stream) {
+    forge_accepted(stream, 55);
+    expect("a good head is counted with a forged state too", line_count("vary") == 55 && line_count("date") == 1 && line_count("age") == 0);
+    forge_accepted(stream, 56);
+    expect("of one that is not good there is nothing to count", line_count("vary") == 0 && line_count("date") == 0);
+    forge_accepted(stream, 100);
+    expect("however long it is", line_count("vary") == 0 && line_count("date") == 0);
 }
 
 static uint8_t feed_with(size_t s, size_t h, size_t b, size_t q, const uint8_t *keys, size_t k, size_t r) {
@@ -368,11 +461,13 @@ static void defy_forged_parts(void) {
     memset(long_head, '\n', sizeof long_head);
     memcpy(long_head, head, sizeof head);
     length = ouinet_reader_value(state, STATE, long_head, sizeof long_head, (const uint8_t *)type, strlen(type), value, sizeof value);
+    expect("a longer head buffer has as many lines", ouinet_reader_value_count(state, STATE, long_head, sizeof long_head, (const uint8_t *)type, strlen(type)) == 1);
     expect("a longer head buffer hands out the same", length > 0 && length == ouinet_reader_value(state, STATE, head, sizeof head, (const uint8_t *)type, strlen(type), value, sizeof value));
     for (i = 0; i < sizeof counts / sizeof *counts; i++) {
         ouinet_reader_put_number(state + 24, counts[i]);
         ouinet_reader_put_number(state + 328, counts[i]);
         expect("no value of a head past its room", ouinet_reader_value(state, STATE, long_head, sizeof long_head, (const uint8_t *)type, strlen(type), value, sizeof value) == 0);
+        expect("and no lines", ouinet_reader_value_count(state, STATE, long_head, sizeof long_head, (const uint8_t *)type, strlen(type)) == 0);
         expect("no block past its room", ouinet_reader_block(state, STATE, long_block, sizeof long_block) == (counts[i] < OUINET_READER_BLOCK_SIZE ? counts[i] : OUINET_READER_BLOCK_SIZE));
     }
 }
@@ -396,6 +491,8 @@ int main(int count, char **arguments) {
     defy_forged_parts();
     look_inside((const uint8_t *)stream, length);
     find_places(stream, (size_t)atol(arguments[5]));
+    count_lines(stream, (size_t)atol(arguments[5]));
+    count_forged_lines(stream);
     measure();
     defy_forged_calls(0xa5);
     ask_of_forged_block(0xa5, one);

@@ -114,11 +114,14 @@ def broken(number, label, fields, status=OK):
     refused(number, label, text(fields, status))
 
 
+def joined(name, lines):
+    """The values of all lines of a name."""
+    return ", ".join(v.strip(" \t") for n, v in lines if n.lower() == name.lower())
+
+
 def good(label, fields=GOOD, status=OK, names=NAMES, created=TIME, size=5, key=1, ident=ID, head=None):
-    values = {n.lower(): v.strip(" \t") for n, v in fields}
-    values["(response-status)"] = status[9:12]
-    values["(created)"] = created
-    string = "\n".join(f"{n.lower()}: {values[n.lower()]}" for n in names)
+    lines = [("(response-status)", status[9:12]), ("(created)", created)] + fields
+    string = "\n".join(f"{n.lower()}: {joined(n, lines)}" for n in names)
     line = f"{label} asks {len(string)} status {status[9:12]} size {size} key {key} id {ident}\n"
     if label.startswith("string-"):
         line += f"signature {SIGNED}\n{string}\n"
@@ -186,10 +189,53 @@ def text_rules():
     ]:
         refused(3, f"field-{label}", whole[:-2] + line + "\r\n\r\n")
     good("field-without-space-after-colon", head=whole.replace("Type: ", "Type:"))
-    broken(3, "name-twice", GOOD + [("Date", "x")])
-    broken(3, "name-twice-in-other-case", GOOD + [("dATE", "x")])
-    broken(3, "name-twice-side-by-side", GOOD + [("A", "x"), ("a", "x")])
-    broken(3, "name-twice-first-and-last", [("A", "x")] + GOOD + [("a", "y")])
+
+
+def repetitions():
+    """Names that are there more than once: only of the protected ones it is refused, signed or not."""
+    for label, more in [
+        ("version", [("X-Ouinet-Version", "4")]),
+        ("uri-in-other-case", [("x-oUINET-uri", "x")]),
+        ("sig0", [("X-Ouinet-Sig0", sig0())]),
+        ("encoding", [("Transfer-Encoding", "chunked")]),
+        ("encoding-in-other-case", [("transfer-ENCODING", "")]),
+        ("length", [("Content-Length", "12"), ("Content-Length", "12")]),
+        ("length-in-other-case", [("CONTENT-length", "12"), ("content-LENGTH", "")]),
+        ("unknown-name", [("X-Ouinet-A", "x"), ("X-Ouinet-A", "x")]),
+        ("unknown-name-in-other-case", [("X-OUINET-a", "x"), ("Date", "x"), ("x-ouinet-A", "y")]),
+        ("shortest-name", [("X-Ouinet-", "x"), ("x-ouinet-", "x")]),
+        ("status", [("X-Ouinet-HTTP-Status", "200"), ("X-Ouinet-HTTP-Status", "200")]),
+    ]:
+        broken(3, f"protected-twice-{label}", GOOD + more)
+    broken(3, "protected-twice-first-and-last", [("X-Ouinet-A", "x")] + GOOD + [("x-ouinet-a", "y")])
+    for name in ("X-Ouinet-A", "Transfer-Encoding", "Content-Length"):
+        broken(3, f"protected-twice-{name}-signed", listing(NAMES + [name], [(name, "chunked"), (name, "chunked")]))
+    near = ["X-Ouinet", "X-Ouinet_A", "Content-Length-A", "Content-Lengt", "Transfer-Encodings", "Transfer-Encodin", "Trailer"]
+    for name in near:
+        good(f"repeated-{name}", GOOD + [(name, "x"), (name.lower(), "")])
+    good("string-repeated-signed-and-near", listing(NAMES + near[:3], [(n, v) for v in "xyz" for n in near]), names=NAMES + near[:3])
+    good("string-repeated-date", GOOD + [("dATE", "x")])
+    names = NAMES + ["vary"]
+    for label, values in [
+        ("once", ["a"]),
+        ("twice", ["a", "b"]),
+        ("the-same", ["a", "a", "a"]),
+        ("empty-around", ["", "b", ""]),
+        ("all-empty", ["", "", ""]),
+        ("with-commas", ["a, b", ",", "c,"]),
+        ("with-blanks", ["\t a\tb ", "  \t", "c \t "]),
+        ("of-many-bytes", ["~\x80\xff", "!\"#"]),
+    ]:
+        good(f"string-repeated-{label}", listing(names, [("Vary", v) for v in values]), names=names)
+    names = PSEUDO + ["VIA"] + OURS + ["vARY"]
+    good("string-repeated-in-turn", listing(names, [("Vary", "a"), ("Via", "2"), ("vary", "c"), ("VIA", "1"), ("VARY", "b")]), names=names)
+    names = NAMES + ["padding"]
+    full = padded(8192, listing(names, [("Padding", "")] * 54))
+    assert len(full) == 64
+    good("64-fields-of-which-55-have-one-name", full, names=names)
+    broken(3, "65-fields-of-which-56-have-one-name", listing(names, [("Padding", "")] * 56))
+    broken(4, "repeated-and-listed-twice", listing(NAMES + ["vary", "vary"], [("Vary", "a"), ("Vary", "b")]))
+    broken(4, "repeated-and-listed-twice-in-other-case", listing(NAMES + ["vary", "VARY"], [("Vary", "a"), ("Vary", "b")]))
 
 
 def plain_rules():
@@ -396,12 +442,16 @@ def trust():
 def order():
     """Two rules broken at once: the earlier one gives the number."""
     old = put("X-Ouinet-Version", "3")
-    broken(3, "order-name-twice-and-version", old + [("Date", "x")])
+    twice = [("X-Ouinet-A", "x"), ("X-Ouinet-A", "x")]
+    broken(3, "order-protected-twice-and-version", old + twice)
+    broken(5, "order-repeated-and-version", old + [("Date", "x")])
     broken(3, "order-65-fields-and-version", old + numbered(56))
-    broken(3, "order-name-twice-and-version-absent", without("X-Ouinet-Version") + [("Date", "x")])
+    broken(3, "order-protected-twice-and-version-absent", without("X-Ouinet-Version") + twice)
+    broken(4, "order-repeated-and-version-absent", without("X-Ouinet-Version") + [("Date", "x")])
     broken(3, "order-text-after-65-fields", GOOD + numbered(56) + [("Server ", "x")])
-    broken(3, "order-text-after-a-name-twice", GOOD + [("Date", "x"), ("Server ", "x")])
-    broken(3, "order-65-fields-and-name-twice", GOOD + numbered(56) + [("Date", "x")])
+    broken(3, "order-text-after-protected-twice", GOOD + twice + [("Server ", "x")])
+    broken(3, "order-text-after-repeated", GOOD + [("Date", "x"), ("Server ", "x")])
+    broken(3, "order-65-fields-and-protected-twice", GOOD + numbered(54) + twice)
     broken(3, "order-last-field-and-status", GOOD + [("Server ", "x")], "HTTP/1.1 404 Not Found")
     broken(3, "order-status-line-and-trust", signed_by(STRANGE, TIME), "HTTP/1.0 200 OK")
     broken(4, "order-version-absent-and-trust", [f for f in signed_by(STRANGE, TIME) if f[0] != "X-Ouinet-Version"])
@@ -413,10 +463,12 @@ def order():
     broken(4, "order-length-and-trust", signed_by(STRANGE, TIME) + [("Content-Length", "0")])
 
 
-for part in (limits, text_rules, plain_rules, injections, block_signatures, head_signatures, lists, trust, order):
+for part in (limits, text_rules, repetitions, plain_rules, injections, block_signatures, head_signatures, lists, trust, order):
     part()
 labels = [label for label, _, _ in CASES]
 assert len(set(labels)) == len(labels) and not any(" " in label for label in labels)
+# the program reads no more
+assert sum(len(f"{label} {len(head)}\n{head}") for label, head, _ in CASES) <= 300000
 with open("stdin", "wb") as cases, open("stdout", "wb") as lines:
     for label, head, line in CASES:
         cases.write(f"{label} {len(head)}\n{head}".encode("latin-1"))

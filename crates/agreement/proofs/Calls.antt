@@ -35,7 +35,7 @@ use Rattle.reader.specs.Feed.{fed, takenFrom}
 use Rattle.calls.specs.Answer.{accepting, answerAt, blockAnswer, followed, following, headAnswer, releasing}
 use Rattle.handing.specs.Released.{blockPart}
 use Rattle.agreement.specs.Observation as Shown
-use Rattle.agreement.specs.Plain.{blockLeft, Handed, handedAfter}
+use Rattle.agreement.specs.Plain.{valuesIn, blockLeft, Handed, handedAfter}
 use Rattle.agreement.specs.Run.{wordSeen}
 use Rattle.agreement.proofs.Stands.{Counts, Lent, Standing, At, HeadAsked, BlockAsked, Reads, isRelease}
 use Rattle.agreement.proofs.Stands as F
@@ -119,7 +119,7 @@ module _ (ring : Ring) (h : Handed) where
                 block = lent .block;
                 question = lent .question;
                 line = lent .line;
-                value = λ name. rw (a .bytes .bytes) at (handed-signed ring (d .head) n name (lent .head) within (rw (a .bytes .bytes) (a .good)));
+                handed = rw (a .bytes .bytes) at (handed-signed ring (d .head) n (lent .head) within (rw (a .bytes .bytes) (a .good)));
               };
           block = rw (a .taken, none) refl;
         }
@@ -127,9 +127,9 @@ module _ (ring : Ring) (h : Handed) where
     head-answer-follows : (good : Bool) → CallFollows ring h (answer good) (headAnswer n d good) (respond (rules ring) (asked (F.headGrant ring d l)) (answer good))
     unfolding headAnswer respond rules wordSeen
     head-answer-follows true =
-        let v = accepted-holds .lent .value in
+        let f = accepted-holds .lent .handed in
         follows _ (event (message (headAccepted (decimalValue (statusDigits (headOf l))) (signedOf (headOf l))))) 0 _ accepted-holds
-        (λ i. event (message (Shown.headAccepted (a .status i) (λ name. v name i)))) refl
+        (λ i. event (message (Shown.headAccepted (a .status i) (valuesIn (f i))))) refl
     head-answer-follows false = refused-follows (answer false) (plain 10) 0 d (omega arith) lent (a .taken) none
 
   -- ---- an answer to a block's question

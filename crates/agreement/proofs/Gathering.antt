@@ -49,7 +49,7 @@ still l d′ h a b q n =
       block = rw b (l .block);
       question = rw q (l .question);
       line = n ∙ l .line;
-      value = λ name. rw (h, a) (l .value name);
+      handed = rw (h, a) (l .handed);
     }
 
 -- the block under way, of which no byte changes

@@ -54,9 +54,7 @@ module _ (ring : Ring) (fields : List Field) (d : Configuration) (x : ℕ) (lent
         block = lent .block;
         question = lent .question;
         line = lent .line;
-        value = λ name.
-            let e = lent .value name in
-            rw (early, handed-none (set (d .head) have x) name) (rw (early, handed-none (d .head) name) at e);
+        handed = let e = lent .handed in rw (early, handed-none (set (d .head) have x)) (rw (early, handed-none (d .head)) at e);
       }
 
   abbrev message : List ℕ

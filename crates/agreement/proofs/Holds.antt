@@ -9,18 +9,17 @@ use Rattle.sections.specs.Reading.{question, Grant}
 use Rattle.sections.specs.Calls.{isOfCall, Request, Reply, misused, Out}
 use Rattle.sections.specs.Machine.{running, asked, finished, Turn, declined}
 use Rattle.stream.specs.Events.{Question, Release, LastWord}
-use Rattle.stream.specs.Fields.{valueOf}
 use Rattle.stream.specs.Limits.{headLimit, blockLimit}
 use Rattle.stream.specs.Lines.{Field}
 use Rattle.stream.specs.Ring.{Ring}
 use Rattle.stream.specs.Stream.{Show, Past, Context}
-use Rattle.handing.specs.Handing.{handedValue}
+use Rattle.handing.specs.Handing.{handedFields}
 use Rattle.state.specs.Configuration.{Configuration}
 use Rattle.state.specs.declared.phase.Phase.{Phase}
 use Rattle.calls.specs.Response as R
 use Rattle.calls.specs.Response.{areRoomy, fits, isReading, unchanged, recalled}
 use Rattle.handing.specs.Released.{blockPart}
-use Rattle.agreement.specs.Plain.{toldWord, Handed, handedAfter, observes}
+use Rattle.agreement.specs.Plain.{valuesIn, toldWord, Handed, handedAfter, observes}
 use Rattle.agreement.specs.Run.{wordSeen, observed}
 use Rattle.agreement.proofs.Stands.{Lent, Standing, At, Stands, Under}
 use Rattle.agreement.proofs.Stands as F
@@ -47,8 +46,8 @@ pub shown : {ring : Ring} (c : R.Response) (h : Handed) (o : Out Question Releas
 unfolding observed
 shown c h o s k w n =
     let b : blockPart (c .after .block) (c .after .reader .released) ≡ h .released = part-is _ _ (k .lent .block) ∙ k .block in
-    let v : (name : List ℕ) → handedValue (c .after .head) (c .after .reader .fixed .accepted) name ≡ valueOf name (h .signed) = k .lent .value in
-    λ i. record { out = (w i, n i); block = b i; value = λ name. v name i }
+    let f : handedFields (c .after .head) (c .after .reader .fixed .accepted) ≡ h .signed = k .lent .handed in
+    λ i. record { out = (w i, n i); block = b i; values = valuesIn (f i) }
 
 pub follows : {ring : Ring} {h : Handed} {r : Request} (c : R.Response) (w : Reply Question Release LastWord) (n : ℕ) (s : Standing)
     → Holds ring (c .after) (handedAfter h r w) s → wordSeen (c .word) (c .signature) (c .after) ≡ toldWord w → c .taken ≡ n

@@ -16,22 +16,21 @@ use Rattle.sections.specs.Machine as M
 use Rattle.sections.specs.Resuming.{request}
 use Rattle.sections.proofs.Cutting.{calls-agree}
 use Rattle.stream.specs.Events.{Question, Release, LastWord}
-use Rattle.stream.specs.Fields.{valueOf}
 use Rattle.stream.specs.Limits.{headLimit, blockLimit, lineLimit, ringLimit}
 use Rattle.stream.specs.Stream.{Context, rules}
 use Rattle.stream.specs.Stream as C
 use Rattle.stream.proofs.Sound.{not-whole-empty}
 use Rattle.stream.proofs.Truth.{left-holds, right-holds}
-use Rattle.handing.specs.Handing.{handedValue}
+use Rattle.handing.specs.Handing.{handedFields}
 use Rattle.handing.proofs.ValueLaws.{handed-none}
 use Rattle.state.specs.Configuration.{Configuration, configuration, freshReader}
 use Rattle.state.specs.declared.reader.Reader.{Reader}
 use Rattle.calls.specs.Response as R
-use Rattle.calls.specs.Response.{areRoomy, isReading, unchanged, recalled}
-use Rattle.reader.specs.Feed.{takenFrom, feedOf}
+use Rattle.calls.specs.Response.{areRoomy, unchanged}
+use Rattle.reader.specs.Feed.{feedOf}
 use Rattle.calls.specs.Answer.{answerOf, endOf}
 use Rattle.handing.specs.Released.{blockPart}
-use Rattle.agreement.specs.Plain.{Handed, nothing, handedAfter, observes, traceFrom, plainTrace}
+use Rattle.agreement.specs.Plain.{valuesIn, Handed, nothing, handedAfter, observes, traceFrom, plainTrace}
 use Rattle.agreement.specs.Run.{Invocation, same, other, called, aside, runCall, wordSeen, observed, runFrom, run, plainCall, plainCalls}
 use Rattle.agreement.proofs.Stands.{Standing}
 use Rattle.agreement.proofs.Stands as F
@@ -77,11 +76,11 @@ aside-unchanged d h b q keys k e = rw (misfit-unchanged (d .reader) h b q keys k
 pub record Idle (d : Configuration) (h : Handed) : Type 0 where
   pub short : haveRoom (d .head) (d .block) (d .question) ≡ false
   pub block : blockPart (d .block) (d .reader .released) ≡ h .released
-  pub value : (name : List ℕ) → handedValue (d .head) (d .reader .fixed .accepted) name ≡ valueOf name (h .signed)
+  pub handed : handedFields (d .head) (d .reader .fixed .accepted) ≡ h .signed
 
 idle-shown : (d : Configuration) (h : Handed) → Idle d h → observed (unchanged 2 d) ≡ observes h (misused 2, 0)
 unfolding observed wordSeen
-idle-shown d h k = let v = k .value in λ i. record { out = (misused 2, 0); block = k .block i; value = λ name. v name i }
+idle-shown d h k = let f = k .handed in λ i. record { out = (misused 2, 0); block = k .block i; values = valuesIn (f i) }
 
 -- ---- a list of calls, from a first loan of the buffers h₀, b₀ and q₀
 
@@ -122,7 +121,7 @@ module _ (keys : KeyRing) (h₀ b₀ q₀ : List ℕ) where
       λ i. g .shown i ∷ calls-go ks (runCall keys d k .after) (handedAfter h (request (plainCall keys h₀ b₀ q₀ k)) (turned s k .0 .0)) (turned s k .1) (g .beside) i
 
   pub fresh-beside : (t : Bool) → haveRoom h₀ b₀ q₀ ≡ t → Beside (configuration freshReader h₀ b₀ q₀) nothing (running C.head [])
-  unfolding freshReader haveRoom blockPart valueOf
+  unfolding freshReader haveRoom blockPart
   fresh-beside true e =
       fit e
       (record {
@@ -133,11 +132,11 @@ module _ (keys : KeyRing) (h₀ b₀ q₀ : List ℕ) where
               block = leb-true blockLimit (length b₀) (left-holds _ _ (right-holds (leb headLimit (length h₀)) _ e));
               question = leb-true headLimit (length q₀) (right-holds (leb blockLimit (length b₀)) _ (right-holds (leb headLimit (length h₀)) _ e));
               line = length-replicate {A = ℕ} lineLimit 0;
-              value = λ name. handed-none h₀ name;
+              handed = handed-none h₀;
             };
         block = refl;
       })
-  fresh-beside false e = idle e (record { short = e; block = none (leb blockLimit (length b₀)); value = λ name. handed-none h₀ name })
+  fresh-beside false e = idle e (record { short = e; block = none (leb blockLimit (length b₀)); handed = handed-none h₀ })
     where
       none : (t : Bool) → _≡_ {A = List ℕ} (pick t [] []) []
       none true = refl

@@ -12,7 +12,6 @@ use Rattle.sections.specs.Machine as M
 use Rattle.sections.specs.Calls.{event}
 use Rattle.stream.specs.Blocks.{chained}
 use Rattle.stream.specs.Events.{Question, Release, headAccepted, block, LastWord}
-use Rattle.stream.specs.Fields.{valueOf}
 use Rattle.stream.specs.Head.{headOf, statusDigits, signedOf, headFault}
 use Rattle.stream.specs.Limits.{headLimit, lineLimit, blockLimit, bodyLimit}
 use Rattle.stream.specs.Lines.{Field}
@@ -21,7 +20,7 @@ use Rattle.stream.specs.Ring.{Ring}
 use Rattle.stream.specs.Stream.{Show, Past, after, Context, isWhole, announced, showOf, blockOffset, bodyWith}
 use Rattle.stream.specs.Stream as C
 use Rattle.stream.proofs.Sound.{SoundShow, SoundBlock, Sound}
-use Rattle.handing.specs.Handing.{handedValue}
+use Rattle.handing.specs.Handing.{handedFields}
 use Rattle.state.specs.Configuration.{Configuration, Next}
 use Rattle.state.specs.Configuration as D
 use Rattle.state.specs.declared.phase.Phase.{Phase}
@@ -56,7 +55,7 @@ pub record Lent (d : Configuration) (fields : List Field) : Type 0 where
   pub block : blockLimit ≤ length (d .block)
   pub question : headLimit ≤ length (d .question)
   pub line : length (d .reader .line) ≡ lineLimit
-  pub value : (name : List ℕ) → handedValue (d .head) (d .reader .fixed .accepted) name ≡ valueOf name fields
+  pub handed : handedFields (d .head) (d .reader .fixed .accepted) ≡ fields
 
 -- ---- the states
 

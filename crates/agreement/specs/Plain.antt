@@ -7,18 +7,22 @@ use Rattle.sections.specs.Reading.{Event, question, message, last, Log}
 use Rattle.sections.specs.Calls.{Request, feed, answer, end, Call, Reply, more, event, misused, Out, readCalls}
 use Rattle.sections.specs.Resuming.{request}
 use Rattle.stream.specs.Events.{Question, Release, headAccepted, block, LastWord}
-use Rattle.stream.specs.Fields.{valueOf}
+use Rattle.stream.specs.Fields.{valueOf, countOf}
 use Rattle.stream.specs.Lines.{Field}
 use Rattle.stream.specs.Ring.{Ring}
 use Rattle.stream.specs.Stream.{head, rules}
-use Rattle.agreement.specs.Observation.{Told, Observation, Trace}
+use Rattle.agreement.specs.Observation.{Values, Told, Observation, Trace}
 use Rattle.agreement.specs.Observation as S
 
 -- ---- words
 
+-- the values of some fields by their names
+abbrev pub valuesIn : List Field → Values
+valuesIn fields = record { value = λ name. valueOf name fields; count = λ name. countOf name fields }
+
 -- a release, as a caller sees it
 abbrev pub told : Release → Told
-told (headAccepted status fields) = S.headAccepted status (λ name. valueOf name fields)
+told (headAccepted status fields) = S.headAccepted status (valuesIn fields)
 told (block offset b) = S.block offset (length b) b
 
 abbrev pub toldEvent : Event Question Release LastWord → Event Question Told LastWord
@@ -65,7 +69,7 @@ handedAfter h r (misused n) = h
 -- ---- calls
 
 abbrev pub observes : Handed → Out Question Release LastWord → Observation
-observes h o = record { out = (toldWord (o .0), o .1); block = h .released; value = λ name. valueOf name (h .signed) }
+observes h o = record { out = (toldWord (o .0), o .1); block = h .released; values = valuesIn (h .signed) }
 
 -- what is shown of one call after the other, where h is handed out before them
 unfoldable pub traceFrom : Handed → List Call → List (Out Question Release LastWord) → Trace

@@ -1,5 +1,5 @@
 -- A list of calls of the reader, from a fresh one, and what a caller sees of each: the functions that the contracts of `feed`,
--- `answer`, `end`, `block_part` and `field_part` name, and nothing else. Assumes nothing.
+-- `answer`, `end`, `block_part`, `field_part` and `field_count` name, and nothing else. Assumes nothing.
 use mathlib.Core.Path.{_≡_}
 use mathlib.Core.Bool.{false}
 use mathlib.Core.List.{List, [], _∷_}
@@ -13,7 +13,7 @@ use Rattle.sections.specs.Reading.{question, message, last}
 use Rattle.sections.specs.Calls.{isOfCall, Request, feed, answer, end, Reply, more, event, misused}
 use Rattle.sections.specs.Calls as S
 use Rattle.stream.specs.Events.{Question, LastWord, closed, refused}
-use Rattle.handing.specs.Handing.{handedValue}
+use Rattle.handing.specs.Handing.{handedValue, handedCount}
 use Rattle.state.specs.Configuration.{Configuration, configuration, freshReader}
 use Rattle.state.specs.declared.word.Word.the-variants as W
 use Rattle.state.specs.declared.word.Word as Code
@@ -22,7 +22,7 @@ use Rattle.reader.specs.Feed.{feedOf}
 use Rattle.calls.specs.Answer.{answerOf, endOf}
 use Rattle.handing.specs.Released.{blockPart}
 use Rattle.agreement.specs.Loans.{loanFits}
-use Rattle.agreement.specs.Observation.{Told, headAccepted, block, Observation, Trace}
+use Rattle.agreement.specs.Observation.{Values, Told, headAccepted, block, Observation, Trace}
 
 -- ---- calls
 
@@ -55,12 +55,18 @@ runCall ring d (other h b q ring′ r misfit) = aside ring′ d (configuration (
 abbrev pub refusal : Refusal → Reply Question Told LastWord
 refusal why = pick (isOfCall (why .number)) (misused (why .number)) (event (last (refused (why .number) (why .at))))
 
--- what `block_part` and `field_part` hand out
+-- what `block_part`, `field_part` and `field_count` hand out
 abbrev pub blockSeen : Configuration → List ℕ
 blockSeen d = blockPart (d .block) (d .reader .released)
 
 abbrev pub valueSeen : Configuration → List ℕ → List ℕ
 valueSeen d name = handedValue (d .head) (d .reader .fixed .accepted) name
+
+abbrev pub countSeen : Configuration → List ℕ → ℕ
+countSeen d name = handedCount (d .head) (d .reader .fixed .accepted) name
+
+abbrev pub valuesSeen : Configuration → Values
+valuesSeen d = record { value = valueSeen d; count = countSeen d }
 
 -- the message at the front of the question buffer, of so many bytes; a length past the buffer is no question, and nothing that a
 -- reading gives
@@ -72,7 +78,7 @@ questionSeen n key signature q =
 unfoldable pub wordSeen : Code.Word → List ℕ → Configuration → Reply Question Told LastWord
 wordSeen W.More signature d = more
 wordSeen (W.Question n key) signature d = questionSeen n key signature (d .question)
-wordSeen (W.Head status) signature d = event (message (headAccepted status (valueSeen d)))
+wordSeen (W.Head status) signature d = event (message (headAccepted status (valuesSeen d)))
 wordSeen (W.Block offset n) signature d = event (message (block (offset .0) n (blockSeen d)))
 wordSeen (W.Closed total) signature d = event (last (closed total))
 wordSeen (W.Refused why) signature d = refusal why
@@ -82,7 +88,7 @@ observed c =
     record {
       out = (wordSeen (c .word) (c .signature) (c .after), c .taken);
       block = blockSeen (c .after);
-      value = valueSeen (c .after);
+      values = valuesSeen (c .after);
     }
 
 -- one call after the other, each with the reader and the buffers that the one before left

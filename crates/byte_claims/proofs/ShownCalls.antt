@@ -24,10 +24,10 @@ use Rattle.layout.specs.State.{stateSize, decoded}
 use Rattle.layout.proofs.StateLaws.{long-stored}
 use Rattle.results.specs.Results.{wordOf, resultIn}
 use Rattle.results.specs.Written.{Answer, answered}
-use Rattle.reader_export.specs.Export.{blockIn, valueIn}
+use Rattle.reader_export.specs.Export.{blockIn, valueIn, countIn}
 use Rattle.reader_export.specs.Loan.{Loan, loan, isLong, Kept}
 use Rattle.agreement.specs.Loans.{haveRoom, loanFits}
-use Rattle.agreement.specs.Run.{called, blockSeen, valueSeen, aside}
+use Rattle.agreement.specs.Run.{called, blockSeen, valueSeen, countSeen, aside}
 use Rattle.agreement.proofs.Lists.{misfit-unchanged}
 use Rattle.byte_claims.specs.ExportedCalls.{Held, same, other, keptAfter}
 use Rattle.byte_claims.specs.OnBytes.{heldIn, seenIn, seenOf, responseSeen, Untouched}
@@ -60,6 +60,10 @@ module _ (x : Held) (h : stateSize ≤ length (x .state)) where
   unfolding valueIn
   value-seen name v = rw (le-leb stateSize (length (x .state)) h)
 
+  count-seen : (name : List ℕ) → countIn (x .state) (x .head) name ≡ countSeen (heldIn x) name
+  unfolding countIn
+  count-seen name = rw (le-leb stateSize (length (x .state)) h)
+
   pub seen-held : (a : Answer) → seenIn a x ≡ seenOf (a .word) (a .result) (heldIn x)
   seen-held a =
       let taken = ap (λ (p : List ℕ). take (length p) (x .block)) block-seen ∙ front-taken (x .block) (decoded (x .state) .released) in
@@ -71,6 +75,7 @@ module _ (x : Held) (h : stateSize ≤ length (x .state)) where
         released = length (block-seen i);
         block = taken i;
         value = λ name v. value-seen name v i;
+        count = λ name. count-seen name i;
       }
 
 -- ---- one call

@@ -10,8 +10,8 @@ use lib.ListN.{length, take, length-take}
 use lib.Seq.{take-take}
 use Rattle.octets.specs.Choice.{pick}
 use Rattle.sections.specs.Calls.{Request}
-use Rattle.stream.specs.Limits.{headLimit, blockLimit}
-use Rattle.handing.specs.Handing.{handedValue}
+use Rattle.stream.specs.Limits.{headLimit, blockLimit, fieldLimit}
+use Rattle.handing.specs.Handing.{handedValue, handedCount}
 use Rattle.handing.specs.Released.{blockPart}
 use Rattle.state.specs.Configuration.{Configuration}
 use Rattle.fronts.specs.Fronts.{firstParts, backed}
@@ -20,7 +20,7 @@ use Rattle.packing.specs.Keys.{keysIn}
 use Rattle.packing.specs.Parts.{placed, placing}
 use Rattle.layout.specs.State.{stateSize, decoded}
 use Rattle.results.specs.Written.{answered}
-use Rattle.reader_export.specs.Export.{blockIn, valueIn}
+use Rattle.reader_export.specs.Export.{blockIn, valueIn, countIn}
 use Rattle.reader_export.specs.Loan.{Loan, exported, isLong}
 use Rattle.reader_export.proofs.LoanLaws.{exported-short}
 use Rattle.agreement.specs.Run.{called}
@@ -28,7 +28,7 @@ use Rattle.byte_claims.specs.Within.{StaysWithin, firstLent, firstLeft, 
 use Rattle.byte_claims.proofs.Bounds.{call-bound}
 use Rattle.byte_claims.proofs.ResultNumbers.{taken-in}
 use Rattle.byte_claims.proofs.TakenCounts.{call-taken}
-use Rattle.byte_claims.proofs.ValueSize.{value-short}
+use Rattle.byte_claims.proofs.ValueSize.{value-short, count-few}
 use Rattle.byte_claims.proofs.LengthsTold.{readerIn, calledIn, answer-is, question-within, block-within, long-result}
 
 -- ---- a call
@@ -135,13 +135,23 @@ module _ (s : List ℕ) where
       by true p m = m
       by false p m = omega arith
 
+  count-told : (h name : List ℕ) → countIn s h name ≤ fieldLimit
+  unfolding countIn
+  count-told h name = by (leb stateSize (length s)) (handedCount (take headLimit h) (decoded s .fixed .accepted) name) (count-few (take headLimit h) (decoded s .fixed .accepted) name)
+    where
+      by : (t : Bool) (n : ℕ) → n ≤ fieldLimit → pick t n 0 ≤ fieldLimit
+      by true n m = m
+      by false n m = omega arith
+
 -- FOR EVERY STATE.
 pub parts-within : (s h b : List ℕ) → PartsWithin s h b
-unfolding blockIn valueIn
+unfolding blockIn valueIn countIn
 parts-within s h b =
     record {
       block = record { named = omega (arith, block-told s b, length-take blockLimit b); lent = omega (arith, block-told s b, length-take blockLimit b) };
       value = λ name v. record { named = omega (arith, value-told s h name v, length-take headLimit h); lent = omega (arith, value-told s h name v, length-take headLimit h) };
+      count = λ name. count-told s h name;
       block-unread = λ b′ e. rw e;
       value-unread = λ h′ name v e. rw e;
+      count-unread = λ h′ name e. rw e;
     }

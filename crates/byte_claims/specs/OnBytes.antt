@@ -14,9 +14,9 @@ use Rattle.packing.specs.Parts.{Placed, placed}
 use Rattle.layout.specs.State.{stateSize, decoded}
 use Rattle.results.specs.Results.{wordOf, resultIn}
 use Rattle.results.specs.Written.{Answer}
-use Rattle.reader_export.specs.Export.{short, configurationIn, blockIn, valueIn}
+use Rattle.reader_export.specs.Export.{short, configurationIn, blockIn, valueIn, countIn}
 use Rattle.agreement.specs.Plain.{plainTrace}
-use Rattle.agreement.specs.Run.{Invocation, blockSeen, valueSeen, observed, runCall, plainCalls}
+use Rattle.agreement.specs.Run.{Invocation, blockSeen, valueSeen, countSeen, observed, runCall, plainCalls}
 use Rattle.agreement.specs.Run as Run
 use Rattle.buffers.specs.Left.{buffersIn, leftAfter}
 use Rattle.byte_claims.specs.ExportedCalls.{Held, ExportedCall, same, other, tooShort, keptAfter, Calls}
@@ -24,7 +24,8 @@ use Rattle.byte_claims.specs.ExportedCalls.{Held, ExportedCall, same, ot
 -- ---- what is seen after each
 
 -- the number returned and the result's bytes; the reader with the first parts of its buffers; what `ouinet_reader_block` gives, and so many
--- bytes at the block buffer's front; and what `ouinet_reader_value` gives, by a name and the buffer lent for the value
+-- bytes at the block buffer's front; what `ouinet_reader_value` gives, by a name and the buffer lent for the value; and what
+-- `ouinet_reader_value_count` gives, by a name
 pub record Seen : Type 0 where
   pub word : ℕ
   pub result : List ℕ
@@ -32,6 +33,7 @@ pub record Seen : Type 0 where
   pub released : ℕ
   pub block : List ℕ
   pub value : List ℕ → List ℕ → Placed
+  pub count : List ℕ → ℕ
 
 abbrev pub heldIn : Held → Configuration
 heldIn x = firstParts (configurationIn (x .state) (x .head) (x .block) (x .question))
@@ -45,6 +47,7 @@ seenIn a x =
       released = length (blockIn (x .state) (x .block));
       block = take (length (blockIn (x .state) (x .block))) (x .block);
       value = valueIn (x .state) (x .head);
+      count = countIn (x .state) (x .head);
     }
 
 unfoldable pub shown : Held → List ExportedCall → List Answer → List Seen
@@ -66,7 +69,8 @@ unfoldable pub made : KeyRing → Configuration → List Invocation → List R.R
 made keys d [] = []
 made keys d (k ∷ ks) = runCall keys d k ∷ made keys (runCall keys d k .after) ks
 
--- what a caller of the reader would see in the exported calls' place: `block_part` and `field_part` hand the two parts out
+-- what a caller of the reader would see in the exported calls' place: `block_part` and `field_part` hand the two parts out, `field_count` tells
+-- the count
 abbrev pub seenOf : ℕ → List ℕ → Configuration → Seen
 seenOf n t d =
     record {
@@ -76,6 +80,7 @@ seenOf n t d =
       released = length (blockSeen d);
       block = blockSeen d;
       value = λ name v. placed (valueSeen d name) v;
+      count = countSeen d;
     }
 
 abbrev pub responseSeen : List ℕ → R.Response → Seen

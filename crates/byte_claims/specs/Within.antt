@@ -6,10 +6,10 @@ use mathlib.Core.Path.{_≡_}
 use Prim.Native.Nat.{ℕ, _≤_}
 use lib.ListN.{length, take, drop}
 use Rattle.sections.specs.Calls.{Request, feed, answer, end}
-use Rattle.stream.specs.Limits.{headLimit, blockLimit}
+use Rattle.stream.specs.Limits.{headLimit, blockLimit, fieldLimit}
 use Rattle.packing.specs.Parts.{numberAt}
 use Rattle.results.specs.Written.{Answer, made}
-use Rattle.reader_export.specs.Export.{short, blockIn, valueIn}
+use Rattle.reader_export.specs.Export.{short, blockIn, valueIn, countIn}
 use Rattle.reader_export.specs.Loan.{Loan, loan, exported}
 
 -- a length that is told is at most the size that is named for the buffer, and at most the buffer's length
@@ -51,11 +51,14 @@ pub record CallWithin (l : Loan) (r : Request) : Type 0 where
   pub stays : StaysWithin l r (exported l r)
   pub unread : (m : Loan) → firstLent l ≡ firstLent m → firstLeft (exported l r) ≡ firstLeft (exported m r)
 
--- ---- the two parts that are handed out
+-- ---- the two parts that are handed out, and the count
 
--- of `ouinet_reader_block`, which tells the length of `blockIn`, and of `ouinet_reader_value`, which gives `valueIn`
+-- of `ouinet_reader_block`, which tells the length of `blockIn`, of `ouinet_reader_value`, which gives `valueIn`, and of
+-- `ouinet_reader_value_count`, which gives `countIn`
 pub record PartsWithin (s h b : List ℕ) : Type 0 where
   pub block : Within blockLimit b (length (blockIn s b))
   pub value : (name v : List ℕ) → Within headLimit h (valueIn s h name v .count)
+  pub count : (name : List ℕ) → countIn s h name ≤ fieldLimit
   pub block-unread : (b′ : List ℕ) → take blockLimit b ≡ take blockLimit b′ → blockIn s b ≡ blockIn s b′
   pub value-unread : (h′ name v : List ℕ) → take headLimit h ≡ take headLimit h′ → valueIn s h name v ≡ valueIn s h′ name v
+  pub count-unread : (h′ name : List ℕ) → take headLimit h ≡ take headLimit h′ → countIn s h name ≡ countIn s h′ name

@@ -7,9 +7,10 @@ use lib.ListN.{length}
 use Rattle.ring.specs.declared.KeyRecord.{KeyRecord}
 use Rattle.ring.specs.declared.KeyRing.{KeyRing}
 use Rattle.sections.specs.Calls.{Request, feed}
+use Rattle.stream.specs.Fields.{valueOf, valuesOf}
 use Rattle.stream.specs.Limits.{blockLimit, ringLimit}
 use Rattle.handing.specs.Released.{blockPart}
-use Rattle.handing.proofs.ValueLaws.{room-small}
+use Rattle.handing.proofs.ValueLaws.{handed-short}
 use Rattle.lent.specs.Table.{keysOf}
 use Rattle.state.specs.Configuration.{Configuration}
 use Rattle.agreement.specs.Loans.{haveRoom}
@@ -63,4 +64,5 @@ unfolding blockPart
 short-block d h = rw (lt-leb blockLimit (length (d .block)) h)
 
 pub short-head : ShortHead
-short-head d name h = room-small (d .head) (d .reader .fixed .accepted) name h
+unfolding valueOf valuesOf
+short-head d name h = let e = handed-short (d .head) (d .reader .fixed .accepted) h in (rw e refl, rw e refl)

@@ -11,16 +11,16 @@ use Rattle.ring.specs.declared.KeyRing.{KeyRing}
 use Rattle.sections.specs.Reading.{message}
 use Rattle.sections.specs.Resuming.{Begins, events}
 use Rattle.stream.specs.Events.{Release, headAccepted, block}
-use Rattle.stream.specs.Fields.{valueOf}
+use Rattle.stream.specs.Fields.{valueOf, valuesOf}
 use Rattle.stream.specs.Head.{headOf, signedOf}
 use Rattle.stream.specs.Limits.{blockLimit}
 use Rattle.stream.specs.Lines.{Field}
 use Rattle.handing.specs.Released.{blockPart}
 use Rattle.handing.proofs.ValueLaws.{handed-none}
 use Rattle.state.specs.Configuration.{Configuration, freshReader}
-use Rattle.agreement.specs.Observation.{Observation, Trace}
+use Rattle.agreement.specs.Observation.{Values, Observation, Trace}
 use Rattle.agreement.specs.Observation as S
-use Rattle.agreement.specs.Plain.{toldLog}
+use Rattle.agreement.specs.Plain.{valuesIn, toldLog}
 use Rattle.agreement.specs.Run.{Invocation, runCall, observed, runFrom, run, plainCalls}
 use Rattle.exactness.specs.Releases.{AcceptsHead}
 use Rattle.exactness.specs.Telling.{headTells}
@@ -33,12 +33,17 @@ use Rattle.claims.proofs.Demand2.{block-comes-out}
 use Rattle.claims.proofs.Demand3.{demand-3}
 use Rattle.claims.proofs.Known.{Known, BlockKnown, ValuesKnown, seen-known}
 use Rattle.claims.proofs.Known as K
-use Rattle.claims.proofs.SignedLines.{values-signed}
+use Rattle.claims.proofs.SignedLines.{good-names, values-signed}
 use Rattle.claims.proofs.Untold.{untold, head-from}
 
 pub nothing-at-first : (h b q : List ℕ) → NothingAtFirst h b q
-unfolding freshReader blockPart
-nothing-at-first h b q = record { no-block = none (leb blockLimit (length b)); no-value = λ name. handed-none h name }
+unfolding freshReader blockPart valueOf valuesOf
+nothing-at-first h b q =
+    record {
+      no-block = none (leb blockLimit (length b));
+      no-value = λ name. rw (handed-none h) refl;
+      no-count = λ name. rw (handed-none h) refl;
+    }
   where
     none : (t : Bool) → _≡_ {A = List ℕ} (pick t [] []) []
     none true = refl
@@ -56,7 +61,7 @@ fieldsIn (headAccepted status fields) = fields
 fieldsIn (block o b) = []
 
 module _ (keys : KeyRing) (h b q : List ℕ) (ks : List Invocation) where
-  handed-known : (o : Observation) → Last o (run keys h b q ks) → Known (events (words keys h b q ks)) (o .block) (o .value)
+  handed-known : (o : Observation) → Last o (run keys h b q ks) → Known (events (words keys h b q ks)) (o .block) (o .values)
   handed-known o s =
       let e = demand-3 keys h b q ks .each-call in
       rw e (seen-known (ringOf keys) (plainCalls keys h b q ks) o (record { earlier = s .earlier; joined = s .joined ∙ e }))
@@ -67,18 +72,18 @@ module _ (keys : KeyRing) (h b q : List ℕ) (ks : List Invocation) where
       a-block place offset (block-comes-out keys h b q ks place offset bytes .0 (record { before = s .earlier; after = []; joined = s .joined })) s
 
   accepted-values : (place status : ℕ) (fields : List Field) (a : AcceptsHead (ringOf keys) (taken keys h b q ks) (answers keys h b q ks) place status fields)
-      → SignedValues (headOf (a .head)) (λ name. valueOf name fields)
+      → SignedValues (headOf (a .head)) (valuesIn fields)
   unfolding headTells
   accepted-values place status fields a =
       let e : signedOf (headOf (a .head)) ≡ fields = ap fieldsIn (a .says) in
-      subst (λ (fs : List Field). SignedValues (headOf (a .head)) (λ name. valueOf name fs)) e (values-signed (headOf (a .head)))
+      subst (λ (fs : List Field). SignedValues (headOf (a .head)) (valuesIn fs)) e (values-signed (headOf (a .head)) (good-names (a .good)))
 
-  values-out : (value : List ℕ → List ℕ) → ValuesKnown (events (words keys h b q ks)) value → ValuesOut keys h b q ks value
+  values-out : (values : Values) → ValuesKnown (events (words keys h b q ks)) values → ValuesOut keys h b q ks values
   unfolding toldLog
-  values-out value (K.no-value e) = no-value e
-  values-out value (K.values-told place status s) =
-      let u = untold (s .before) (s .after) place (message (S.headAccepted status value)) (log keys h b q ks) (s .joined ∙ demand-3 keys h b q ks .all-taken) in
-      let f = head-from (u .it) status value (u .same-event) in
+  values-out values (K.no-value e n) = no-value e n
+  values-out values (K.values-told place status s) =
+      let u = untold (s .before) (s .after) place (message (S.headAccepted status values)) (log keys h b q ks) (s .joined ∙ demand-3 keys h b q ks .all-taken) in
+      let f = head-from (u .it) status values (u .same-event) in
       let a = head-exact (ringOf keys) (taken keys h b q ks) (answers keys h b q ks) (ended keys h b q ks) place status (f .fields) .0
       (record { before = u .before; after = u .after; joined = rw (← f .head) (u .joined) }) in
       of-head
@@ -87,7 +92,7 @@ module _ (keys : KeyRing) (h b q : List ℕ) (ks : List Invocation) where
         status = status;
         fields = f .fields;
         accepted = a;
-        signed = subst (SignedValues (headOf (a .head))) (f .values) (accepted-values place status (f .fields) a);
+        signed = subst (SignedValues (headOf (a .head))) (f .told) (accepted-values place status (f .fields) a);
         asked = head-first keys h b q ks place status (f .fields) a;
       })
 
@@ -97,7 +102,7 @@ module _ (keys : KeyRing) (h b q : List ℕ) (ks : List Invocation) where
   nothing-else =
       record {
         block-handed = λ o s. block-out (o .block) (handed-known o s .block);
-        values-handed = λ o s. values-out (o .value) (handed-known o s .values);
+        values-handed = λ o s. values-out (o .values) (handed-known o s .values);
         question-before = block-question keys h b q ks;
         later-calls = λ more. run-longer keys _ ks more;
       }

@@ -8,12 +8,12 @@ use Rattle.sections.specs.Machine.{State, running, asked, finished, turn, runFr
 use Rattle.sections.specs.Resuming.{request, entry, placed, events}
 use Rattle.sections.proofs.Cutting.{calls-agree}
 use Rattle.stream.specs.Events.{Question, Release, headAccepted, block, LastWord}
-use Rattle.stream.specs.Fields.{valueOf}
+use Rattle.stream.specs.Fields.{valueOf, valuesOf}
 use Rattle.stream.specs.Ring.{Ring}
 use Rattle.stream.specs.Stream.{Context, head, rules}
-use Rattle.agreement.specs.Observation.{Told, Observation, Trace, outs}
+use Rattle.agreement.specs.Observation.{Values, Told, Observation, Trace, outs}
 use Rattle.agreement.specs.Observation as S
-use Rattle.agreement.specs.Plain.{told, toldWord, blockLeft, Handed, nothing, handedAfter, observes, traceFrom, plainTrace}
+use Rattle.agreement.specs.Plain.{valuesIn, told, toldWord, blockLeft, Handed, nothing, handedAfter, observes, traceFrom, plainTrace}
 use Rattle.exactness.specs.Telling.{Stands}
 use Rattle.claims.specs.Handed.{Last}
 use Rattle.claims.proofs.Turns.{Moves, refuses, reads, asks, tells, stops, ends, grants, closes, turn-moves}
@@ -27,16 +27,16 @@ pub data BlockKnown (log : ToldLog) (bytes : List ℕ) : Type 0 where
   block-told : (place offset : ℕ) → Last (place, message (told (block offset bytes))) log → BlockKnown log bytes
 
 -- nothing, or told with *head accepted*
-pub data ValuesKnown (log : ToldLog) (value : List ℕ → List ℕ) : Type 0 where
-  no-value : ((name : List ℕ) → value name ≡ []) → ValuesKnown log value
-  values-told : (place status : ℕ) → Stands (place, message (S.headAccepted status value)) log → ValuesKnown log value
+pub data ValuesKnown (log : ToldLog) (values : Values) : Type 0 where
+  no-value : ((name : List ℕ) → values .value name ≡ []) → ((name : List ℕ) → values .count name ≡ 0) → ValuesKnown log values
+  values-told : (place status : ℕ) → Stands (place, message (S.headAccepted status values)) log → ValuesKnown log values
 
-pub record Known (log : ToldLog) (bytes : List ℕ) (value : List ℕ → List ℕ) : Type 0 where
+pub record Known (log : ToldLog) (bytes : List ℕ) (given : Values) : Type 0 where
   pub block : BlockKnown log bytes
-  pub values : ValuesKnown log value
+  pub values : ValuesKnown log given
 
 abbrev KnownOf : ToldLog → Handed → Type 0
-KnownOf log h = Known log (h .released) (λ name. valueOf name (h .signed))
+KnownOf log h = Known log (h .released) (valuesIn (h .signed))
 
 -- ---- a log that grows
 
@@ -44,9 +44,9 @@ stands-longer : {A : Type 0} (x : A) (l m : List A) → Stands x l → Stands x 
 stands-longer x l m s =
     record { before = s .before; after = s .after ++ m; joined = sym (append-assoc (s .before) (x ∷ s .after) m) ∙ ap (λ (k : List _). k ++ m) (s .joined) }
 
-values-longer : (log m : ToldLog) (value : List ℕ → List ℕ) → ValuesKnown log value → ValuesKnown (log ++ m) value
-values-longer log m value (no-value e) = no-value e
-values-longer log m value (values-told place status s) = values-told place status (stands-longer _ log m s)
+values-longer : (log m : ToldLog) (values : Values) → ValuesKnown log values → ValuesKnown (log ++ m) values
+values-longer log m values (no-value e f) = no-value e f
+values-longer log m values (values-told place status s) = values-told place status (stands-longer _ log m s)
 
 -- ---- one call
 
@@ -57,12 +57,12 @@ Quiet (asked y) bytes = bytes ≡ []
 Quiet finished bytes = Unit {0}
 
 record KnownAt (log : ToldLog) (h : Handed) (s : State Context Release LastWord) : Type 0 where
-  handed : Known log (h .released) (λ name. valueOf name (h .signed))
+  handed : Known log (h .released) (valuesIn (h .signed))
   quiet : Quiet s (h .released)
 
 -- no block is handed out, and the signed fields stay
-none-known : (log m : ToldLog) (bytes : List ℕ) (value : List ℕ → List ℕ) → bytes ≡ [] → ValuesKnown log value → Known (log ++ m) bytes value
-none-known log m bytes value e k = record { block = no-block e; values = values-longer log m value k }
+none-known : (log m : ToldLog) (bytes : List ℕ) (values : Values) → bytes ≡ [] → ValuesKnown log values → Known (log ++ m) bytes values
+none-known log m bytes values e k = record { block = no-block e; values = values-longer log m values k }
 
 told-known : (log : ToldLog) (place : ℕ) (h : Handed) (r : Request) (e : Release) → blockLeft r (h .released) ≡ [] → KnownOf log h
     → KnownOf (log ++ entry place (toldWord (event (message e)))) (handedAfter h r (event (message e)))
@@ -85,15 +85,15 @@ call-known log place h closes k = record { handed = none-known log _ _ _ (k .qui
 -- ---- a list of calls
 
 -- the last call: no other is seen after it
-one-known : (log m : ToldLog) (at : ℕ) (rest : Trace) (o o′ : Observation) → [] ≡ rest → o ≡ o′ → Known (log ++ m) (o′ .block) (o′ .value)
-    → Known (log ++ (m ++ placed at (outs rest))) (o .block) (o .value)
+one-known : (log m : ToldLog) (at : ℕ) (rest : Trace) (o o′ : Observation) → [] ≡ rest → o ≡ o′ → Known (log ++ m) (o′ .block) (o′ .values)
+    → Known (log ++ (m ++ placed at (outs rest))) (o .block) (o .values)
 unfolding placed outs
 one-known log m at rest o o′ e f k = rw (← e, f, append-nil m) k
 
 module _ (ring : Ring) where
   last-known : (ks : List Call) (s : State Context Release LastWord) (h : Handed) (log : ToldLog) (at : ℕ) (o : Observation) (earlier : Trace)
       → KnownAt log h s → earlier ++ o ∷ [] ≡ traceFrom h ks (runFrom (rules ring) s ks)
-      → Known (log ++ placed at (outs (traceFrom h ks (runFrom (rules ring) s ks)))) (o .block) (o .value)
+      → Known (log ++ placed at (outs (traceFrom h ks (runFrom (rules ring) s ks)))) (o .block) (o .values)
   unfolding traceFrom outs placed runFrom
   last-known [] s h log at o [] k x = absurd (cons-ne-nil _ _ x)
   last-known [] s h log at o (z ∷ zs) k x = absurd (cons-ne-nil _ _ x)
@@ -108,10 +108,10 @@ module _ (ring : Ring) where
       (last-known ks (turn (rules ring) s c .1) (handedAfter h (request c) (w .0)) (log ++ entry (at + w .1) (toldWord (w .0))) (at + w .1) o zs n (tail-eq-of-cons-eq x))
 
   -- WHAT IS SEEN of the last call.
-  pub seen-known : (ks : List Call) (o : Observation) → Last o (plainTrace ring ks) → Known (events (outs (plainTrace ring ks))) (o .block) (o .value)
-  unfolding plainTrace runCalls valueOf
+  pub seen-known : (ks : List Call) (o : Observation) → Last o (plainTrace ring ks) → Known (events (outs (plainTrace ring ks))) (o .block) (o .values)
+  unfolding plainTrace runCalls valueOf valuesOf
   seen-known ks o s =
       let e = sym (ap (traceFrom nothing ks) (calls-agree (rules ring) head ks)) in
       rw e
       (last-known ks (running head []) nothing [] 0 o (s .earlier)
-      (record { handed = record { block = no-block refl; values = no-value (λ name. refl) }; quiet = tt }) (s .joined ∙ e))
+      (record { handed = record { block = no-block refl; values = no-value (λ name. refl) (λ name. refl) }; quiet = tt }) (s .joined ∙ e))

@@ -19,4 +19,5 @@ pub mod Refused
 pub mod Numbers
 pub mod Closed
 pub mod Left
+pub mod Kept
 pub mod Examples

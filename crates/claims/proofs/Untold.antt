@@ -6,11 +6,10 @@ use mathlib.Core.List.{List, [], _∷_, _++_, cons-ne-nil, head-eq-of-cons-eq, t
 use Prim.Native.Nat.{ℕ}
 use Rattle.sections.specs.Reading.{Event, question, message, last, Log}
 use Rattle.stream.specs.Events.{Question, Release, headAccepted, block, LastWord}
-use Rattle.stream.specs.Fields.{valueOf}
 use Rattle.stream.specs.Lines.{Field}
-use Rattle.agreement.specs.Observation.{Told}
+use Rattle.agreement.specs.Observation.{Values, Told}
 use Rattle.agreement.specs.Observation as S
-use Rattle.agreement.specs.Plain.{toldEvent, toldLog}
+use Rattle.agreement.specs.Plain.{valuesIn, toldEvent, toldLog}
 use Rattle.agreement.proofs.Streams.{log-append}
 use Rattle.exactness.specs.Telling.{StreamEvent, Stands}
 
@@ -71,35 +70,35 @@ stands-untold place e log only s =
 
 abbrev isHead : ToldEvent → Bool
 isHead (question q) = false
-isHead (message (S.headAccepted status value)) = true
+isHead (message (S.headAccepted status values)) = true
 isHead (message (S.block o n b)) = false
 isHead (last l) = false
 
 abbrev statusIn : ToldEvent → ℕ
 statusIn (question q) = 0
-statusIn (message (S.headAccepted status value)) = status
+statusIn (message (S.headAccepted status values)) = status
 statusIn (message (S.block o n b)) = 0
 statusIn (last l) = 0
 
-abbrev valueIn : ToldEvent → List ℕ → List ℕ
-valueIn (question q) name = []
-valueIn (message (S.headAccepted status value)) name = value name
-valueIn (message (S.block o n b)) name = []
-valueIn (last l) name = []
+abbrev valuesOr : Values → ToldEvent → Values
+valuesOr v (question q) = v
+valuesOr v (message (S.headAccepted status values)) = values
+valuesOr v (message (S.block o n b)) = v
+valuesOr v (last l) = v
 
-pub record HeadUntold (e : StreamEvent) (status : ℕ) (value : List ℕ → List ℕ) : Type 0 where
+pub record HeadUntold (e : StreamEvent) (status : ℕ) (values : Values) : Type 0 where
   pub fields : List Field
   pub head : e ≡ message (headAccepted status fields)
-  pub values : (λ (name : List ℕ). valueOf name fields) ≡ value
+  pub told : valuesIn fields ≡ values
 
-pub head-from : (e : StreamEvent) (status : ℕ) (value : List ℕ → List ℕ) → toldEvent e ≡ message (S.headAccepted status value)
-    → HeadUntold e status value
-head-from (question q) status value x = absurd (true≢false (sym (ap isHead x)))
-head-from (message (headAccepted s fields)) status value x =
+pub head-from : (e : StreamEvent) (status : ℕ) (values : Values) → toldEvent e ≡ message (S.headAccepted status values)
+    → HeadUntold e status values
+head-from (question q) status values x = absurd (true≢false (sym (ap isHead x)))
+head-from (message (headAccepted s fields)) status values x =
     let p : s ≡ status = ap statusIn x in
-    record { fields = fields; head = λ i. message (headAccepted (p i) fields); values = ap valueIn x }
-head-from (message (block o b)) status value x = absurd (true≢false (sym (ap isHead x)))
-head-from (last l) status value x = absurd (true≢false (sym (ap isHead x)))
+    record { fields = fields; head = λ i. message (headAccepted (p i) fields); told = ap (valuesOr values) x }
+head-from (message (block o b)) status values x = absurd (true≢false (sym (ap isHead x)))
+head-from (last l) status values x = absurd (true≢false (sym (ap isHead x)))
 
 -- ---- a last word
 

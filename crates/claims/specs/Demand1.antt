@@ -19,7 +19,7 @@ use Rattle.calls.specs.Response.{Response, isReading, unchanged}
 use Rattle.reader.specs.Feed.{feedOf}
 use Rattle.agreement.specs.Due.{isDue, isInHead, isMisuse, isQuestion, Between}
 use Rattle.agreement.specs.Loans.{loanFits}
-use Rattle.agreement.specs.Run.{called, blockSeen, valueSeen}
+use Rattle.agreement.specs.Run.{called, blockSeen, valueSeen, countSeen}
 use Rattle.claims.specs.Lent.{lentFits, lentCalled}
 
 -- REFUSALS 1 AND 2, of a call from the configuration d that asks for r, whose loan will do or not, and that gave c: exactly when they
@@ -64,4 +64,4 @@ abbrev pub ShortBlock : Type 0
 ShortBlock = (d : Configuration) → length (d .block) < blockLimit → blockSeen d ≡ []
 
 abbrev pub ShortHead : Type 0
-ShortHead = (d : Configuration) (name : List ℕ) → length (d .head) < headLimit → valueSeen d name ≡ []
+ShortHead = (d : Configuration) (name : List ℕ) → length (d .head) < headLimit → (valueSeen d name ≡ []) × (countSeen d name ≡ 0)

@@ -3,8 +3,8 @@
 --
 -- `run keys h b q ks` is what a caller sees of the calls ks from a fresh reader, lent the buffers h, b and q with any first content
 -- and the key ring `keys`: each call's word with all that it carries, the count taken, the question's message as it lies in the
--- question buffer, and after the call the released block and the value of every field as they are handed out. It is made of the
--- functions that the contracts of the code name (crate agreement, Run). A call that is refused with 2 may be lent anything.
+-- question buffer, and after the call the released block and the value and the count of every field as they are handed out. It is made of
+-- the functions that the contracts of the code name (crate agreement, Run). A call that is refused with 2 may be lent anything.
 -- `plainTrace` is the same of the plain reading: paper 01, "A list of calls is read so" (crates sections and agreement, Plain).
 use mathlib.Core.Path.{_≡_}
 use mathlib.Core.Bool.{true}

@@ -11,9 +11,9 @@ use Rattle.stream.specs.Events.{Question, block, LastWord}
 use Rattle.stream.specs.Head.{headOf}
 use Rattle.stream.specs.Lines.{Field}
 use Rattle.state.specs.Configuration.{configuration, freshReader}
-use Rattle.agreement.specs.Observation.{Told, Observation}
+use Rattle.agreement.specs.Observation.{Values, Told, Observation}
 use Rattle.agreement.specs.Plain.{told}
-use Rattle.agreement.specs.Run.{Invocation, run, blockSeen, valueSeen}
+use Rattle.agreement.specs.Run.{Invocation, run, blockSeen, valueSeen, countSeen}
 use Rattle.exactness.specs.Releases.{AcceptsHead, ReleasesBlock}
 use Rattle.exactness.specs.Telling.{headAsks, blockAsks}
 use Rattle.claims.specs.Runs.{words, taken, answers}
@@ -23,6 +23,7 @@ use Rattle.claims.specs.SignedValues.{SignedValues}
 pub record NothingAtFirst (h b q : List ℕ) : Type 0 where
   pub no-block : blockSeen (configuration freshReader h b q) ≡ []
   pub no-value : (name : List ℕ) → valueSeen (configuration freshReader h b q) name ≡ []
+  pub no-count : (name : List ℕ) → countSeen (configuration freshReader h b q) name ≡ 0
 
 -- x is the last of the list
 pub record Last {A : Type 0} (x : A) (l : List A) : Type 0 where
@@ -39,18 +40,18 @@ module _ (keys : KeyRing) (h b q : List ℕ) (ks : List Invocation) where
 
   -- an accepted head, of which these are the signed values; the message that their lines stand in is that of the question about this
   -- head, which is the first event of all, and the first answer is yes (`accepted .granted`)
-  pub record OfAcceptedHead (value : List ℕ → List ℕ) : Type 0 where
+  pub record OfAcceptedHead (values : Values) : Type 0 where
     pub place : ℕ
     pub status : ℕ
     pub fields : List Field
     pub accepted : AcceptsHead (ringOf keys) (taken keys h b q ks) (answers keys h b q ks) place status fields
-    pub signed : SignedValues (headOf (accepted .head)) value
+    pub signed : SignedValues (headOf (accepted .head)) values
     pub asked : Begins ((place, question (headAsks (ringOf keys) (headOf (accepted .head)))) ∷ []) (events (words keys h b q ks))
 
-  -- THE VALUES that are handed out, by name: nothing for any name, or the signed values of an accepted head.
-  pub data ValuesOut (value : List ℕ → List ℕ) : Type 0 where
-    no-value : ((name : List ℕ) → value name ≡ []) → ValuesOut value
-    of-head : OfAcceptedHead value → ValuesOut value
+  -- THE VALUES that are handed out, by name, and their counts: nothing for any name, or the signed values of an accepted head.
+  pub data ValuesOut (values : Values) : Type 0 where
+    no-value : ((name : List ℕ) → values .value name ≡ []) → ((name : List ℕ) → values .count name ≡ 0) → ValuesOut values
+    of-head : OfAcceptedHead values → ValuesOut values
 
   -- THE QUESTION right before a block, at the same place, is about this block: `blockAsks` has the message with the head's id, the
   -- offset and the chained hash of this block, the signature in the line after it, and the record of the head's key; all answers up to
@@ -63,7 +64,7 @@ module _ (keys : KeyRing) (h b q : List ℕ) (ks : List Invocation) where
   pub record NothingElse : Type 0 where
     -- o is what is seen of the last of these calls
     pub block-handed : (o : Observation) → Last o (run keys h b q ks) → BlockOut (o .block)
-    pub values-handed : (o : Observation) → Last o (run keys h b q ks) → ValuesOut (o .value)
+    pub values-handed : (o : Observation) → Last o (run keys h b q ks) → ValuesOut (o .values)
     -- each block among the events, after those that come before it
     pub question-before : (earlier later : Log Question Told LastWord) (place offset : ℕ) (bytes : List ℕ)
         → earlier ++ (place, message (told (block offset bytes))) ∷ later ≡ events (words keys h b q ks)

@@ -13,4 +13,5 @@ pub mod Handed
 pub mod Reached
 pub mod Closed
 pub mod Left
+pub mod Kept
 pub mod Examples

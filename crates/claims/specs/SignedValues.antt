@@ -4,13 +4,12 @@ use mathlib.Core.Path.{_≡_}
 use mathlib.Core.Bool.{Bool, true, false}
 use mathlib.Core.List.{List, [], _∷_, _++_}
 use Prim.Native.Nat.{ℕ}
-use Rattle.stream.specs.Bytes.{sameName}
-use Rattle.stream.specs.Fields.{among}
-use Rattle.stream.specs.Head.{Head, listedNames, signedOf, signingString}
-use Rattle.stream.specs.Lines.{Field}
+use lib.ListN.{length}
+use Rattle.stream.specs.Fields.{among, valuesOf}
+use Rattle.stream.specs.Head.{Head, listedNames, signingString}
 use Rattle.stream.specs.Signatures.{listedFields}
-use Rattle.stream.specs.Signing.{signingLine}
-use Rattle.exactness.specs.Telling.{Stands}
+use Rattle.stream.specs.Signing.{joinedValues, signingLine}
+use Rattle.agreement.specs.Observation.{Values}
 
 -- ---- a line of a text: "a line feed between, none after the last"
 
@@ -33,21 +32,21 @@ pub record LineIn (line text : List ℕ) : Type 0 where
 
 -- ---- values
 
--- a field of the list has that name, "compared without case", and that value
-pub record HasValue (fields : List Field) (name value : List ℕ) : Type 0 where
-  pub holder : Field
-  pub there : Stands holder fields
-  pub named : sameName name (holder .name) ≡ true
-  pub valued : holder .value ≡ value
+-- The values of the fields of that name, "compared without case": the one that is handed out is the first, the count is of all, and all of
+-- them, "in order, with a comma and a space", are the value in the head's message.
+pub record HasValues (head : Head) (name value : List ℕ) (count : ℕ) : Type 0 where
+  pub others : List (List ℕ)
+  pub all : value ∷ others ≡ valuesOf name (head .fields)
+  pub counted : length (value ∷ others) ≡ count
+  pub in-message : LineIn (signingLine (record { name = name; value = joinedValues (value ∷ others) })) (signingString head)
 
 -- the head lists the name among those of the signed fields
 abbrev pub isListed : Head → List ℕ → Bool
 isListed head name = among name (listedFields (listedNames head))
 
--- The values by name are those of the head's signed fields: no other name gives anything, and the line of a listed name with its value
--- stands in the head's message.
-pub record SignedValues (head : Head) (value : List ℕ → List ℕ) : Type 0 where
-  pub unlisted : (name : List ℕ) → isListed head name ≡ false → value name ≡ []
-  pub listed : (name : List ℕ) → isListed head name ≡ true → HasValue (signedOf head) name (value name)
-  pub in-message : (name : List ℕ) → isListed head name ≡ true
-      → LineIn (signingLine (record { name = name; value = value name })) (signingString head)
+-- The values by name are those of the head's signed fields: no other name gives anything, and the line of a listed name stands in the head's
+-- message with all values of that name.
+pub record SignedValues (head : Head) (values : Values) : Type 0 where
+  pub unlisted : (name : List ℕ) → isListed head name ≡ false → values .value name ≡ []
+  pub uncounted : (name : List ℕ) → isListed head name ≡ false → values .count name ≡ 0
+  pub listed : (name : List ℕ) → isListed head name ≡ true → HasValues head name (values .value name) (values .count name)

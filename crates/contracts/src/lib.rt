@@ -1,5 +1,5 @@
 // The reader's calls, with contracts in the words of the claims: a run starts from `freshReader`, `called` is one call of it, and
-// `blockSeen` and `valueSeen` are what the claims say a caller sees. Each body is the call itself.
+// `blockSeen`, `valueSeen` and `countSeen` are what the claims say a caller sees. Each body is the call itself.
 use reader::Outcome;
 use ring::KeyRing;
 use state::Reader;
@@ -9,7 +9,7 @@ ghost use Prim.Native.Nat.{ℕ};
 ghost use Rattle.sections.specs.Calls as C;
 ghost use Rattle.state.specs.Configuration.{configuration, freshReader};
 ghost use Rattle.calls.specs.Response.{made};
-ghost use Rattle.agreement.specs.Run.{called, blockSeen, valueSeen};
+ghost use Rattle.agreement.specs.Run.{called, blockSeen, valueSeen, countSeen};
 
 fn fresh() -> Reader
     ensures { λ r. ⌜ r ≡ freshReader ⌝ }
@@ -53,4 +53,11 @@ fn field_part<'a>(r: Reader, head: &'a [u8], name: &[u8]) -> &'a [u8]
 {
     let fixed = r.fixed;
     reader::field_part(head, fixed.accepted, name)
+}
+
+fn field_count(r: Reader, head: &[u8], name: &[u8]) -> usize
+    ensures { λ n. ⌜ ((b q : List ℕ) → n ≡ countSeen (configuration r (now (head .entry)) b q) (now (name .entry))) ⌝ }
+{
+    let fixed = r.fixed;
+    reader::field_count(head, fixed.accepted, name)
 }

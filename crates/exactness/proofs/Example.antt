@@ -8,9 +8,9 @@ use lib.ListN.{length, replicate}
 use Rattle.octets.specs.Octets.{octets}
 use Rattle.base64.specs.Base64.{isBase64, letterValue, holdsThree, holdsTwo, holdsOne, joinedLetters, base64Bytes, textOf}
 use Rattle.sections.specs.Reading.{cut, cutAt}
-use Rattle.sections.proofs.Cuts.{NoneBelow, cut-is}
+use Rattle.sections.proofs.Cuts.{cut-is}
 use Rattle.stream.specs.Bytes.{all, same, lowered, sameName}
-use Rattle.stream.specs.Fields.{among, isDoubled, namesOf, hasField, valueOf}
+use Rattle.stream.specs.Fields.{among, isDoubled, isProtected, isProtectedDoubled, namesOf, hasField, valueOf}
 use Rattle.stream.specs.Head.{endsHead, isWholeHead, headWith, headOf, statusDigits, injectionTime, blockSize, blockKey, headKey, listedNames, trustedBy, textRules, trustRules, headFault}
 use Rattle.stream.specs.Limits.{bodyLimit}
 use Rattle.stream.specs.Lines.{endsWith, lines, beforeEmpty, textLines, trimmed, fieldScan, isFieldLine, fieldOf, areFieldLines, fieldsOf, statusScan, isStatusLine, statusOf}
@@ -29,40 +29,24 @@ use Rattle.exactness.specs.Telling.{released}
 use Rattle.exactness.proofs.Completeness.{show-complete, show-released}
 use Rattle.exactness.proofs.Faults.{faultless-head, faultless-trailer}
 
--- ---- the head keeps the rules
+-- ---- the example's body, after any good head with its size
 
-head-cut : cut isWholeHead exampleHead ≡ cutAt exampleHead []
-unfolding cut isWholeHead endsHead endsWith same
-head-cut = refl
-
-head-faultless : headFault ring exampleHead ≡ 0
-unfolding isBase64 letterValue holdsThree holdsTwo holdsOne joinedLetters base64Bytes all same lowered sameName among isDoubled namesOf hasField valueOf endsHead headWith headOf statusDigits injectionTime blockSize blockKey headKey listedNames trustedBy textRules trustRules headFault endsWith lines beforeEmpty textLines trimmed fieldScan isFieldLine fieldOf areFieldLines fieldsOf statusScan isStatusLine statusOf numberFrom isDecimal fits firstFrom found firstBroken injectionScan isInjection bsigsScan isBsigs sig0Scan isSig0 splitNames areFields isNameList run past startsWith scan
-head-faultless = refl
-
-head-none : NoneBelow isWholeHead exampleHead (length exampleHead)
-head-none = (rw head-cut at (cut-is isWholeHead exampleHead)) .3
-
-head-good : GoodHead ring exampleHead
-head-good = faultless-head ring exampleHead head-none head-faultless
-
--- ---- the show
+pub computed-head : (head : List ℕ) → cut isWholeHead head ≡ cutAt head [] → headFault ring head ≡ 0 → GoodHead ring head
+computed-head head c f = faultless-head ring head ((rw c at (cut-is isWholeHead head)) .3) f
 
 chunk : List ℕ → List ℕ → Chunk
 chunk digits block = record { block = block; digits = digits; signature = replicate 64 0 }
 
-pub example : WholeShow
-example =
-    record {
-      head = exampleHead;
-      chunks = chunk (octets "5") (octets "Hello") ∷ chunk (octets "5") (octets " worl") ∷ chunk (octets "2") (octets "d!") ∷ [];
-      zeros = octets "0";
-      trailer = octets "\r\n";
-    }
+chunks : List Chunk
+chunks = chunk (octets "5") (octets "Hello") ∷ chunk (octets "5") (octets " worl") ∷ chunk (octets "2") (octets "d!") ∷ []
+
+pub showAfter : List ℕ → WholeShow
+showAfter head = record { head = head; chunks = chunks; zeros = octets "0"; trailer = octets "\r\n" }
 
 -- it is written as the example is
-pub example-stream : streamOf example ≡ exampleHead ++ exampleBody
-unfolding example chunk chunksWritten textOf
-example-stream = refl
+stream-after : (head : List ℕ) → streamOf (showAfter head) ≡ head ++ exampleBody
+unfolding showAfter chunks chunk chunksWritten textOf
+stream-after head = refl
 
 trailer-cut : cut isWholeTrailer (octets "\r\n") ≡ cutAt (octets "\r\n") []
 unfolding cut isWholeTrailer endsTrailer endsWith same
@@ -75,16 +59,12 @@ trailer-is = refl
 trailer-good : GoodTrailer (octets "\r\n")
 trailer-good = faultless-trailer (octets "\r\n") ((rw trailer-cut at (cut-is isWholeTrailer (octets "\r\n"))) .3) trailer-is
 
-size-five : blockSize (headOf exampleHead) ≡ 5
-unfolding headWith headOf blockSize numberFrom lines beforeEmpty textLines trimmed fieldScan fieldOf fieldsOf valueOf sameName lowered same bsigsScan injectionScan sig0Scan run past startsWith scan
-size-five = refl
-
 chunk-honest : (digits block : List ℕ) → 1 ≤ length block → Writes digits (length block) → HonestChunk (chunk digits block)
 unfolding chunk
 chunk-honest digits block i w = record { some = i; size = w; bytes = refl; sixty-four = refl }
 
-chunks-honest : HonestChunks (example .chunks)
-unfolding example isHexNumber all numberFrom
+chunks-honest : HonestChunks chunks
+unfolding chunks isHexNumber all numberFrom
 chunks-honest = (
   chunk-honest (octets "5") (octets "Hello") (omega arith) (record { text = refl; value = refl }),
   (
@@ -93,34 +73,65 @@ chunks-honest = (
   ),
 )
 
-chunks-sized : (N : ℕ) → N ≡ 5 → Sized N (example .chunks)
-unfolding example chunk
+chunks-sized : (N : ℕ) → N ≡ 5 → Sized N chunks
+unfolding chunks chunk
 chunks-sized N e = (omega arith, (omega arith, omega arith))
 
-chunks-total : length (bodyOf (example .chunks)) ≤ bodyLimit
-unfolding example chunk bodyOf
+chunks-total : length (bodyOf chunks) ≤ bodyLimit
+unfolding chunks chunk bodyOf
 chunks-total = omega arith
 
-pub example-honest : Honest ring example
-unfolding example isHexNumber all numberFrom
-example-honest =
+pub honest-after : (head : List ℕ) → GoodHead ring head → blockSize (headOf head) ≡ 5 → Honest ring (showAfter head)
+unfolding showAfter isHexNumber all numberFrom
+honest-after head good five =
     record {
-      head = head-good;
+      head = good;
       chunks = chunks-honest;
-      sized = chunks-sized (blockSize (headOf exampleHead)) size-five;
+      sized = chunks-sized (blockSize (headOf head)) five;
       total = chunks-total;
       zeros = record { text = refl; value = refl };
       trailer = trailer-good;
     }
 
--- ---- with four yeses it comes out whole
+-- with four yeses it comes out whole
+pub whole-after : (head : List ℕ) → Honest ring (showAfter head)
+    → (told : Bool) → plainReading ring (head ++ exampleBody) (replicate 4 true) told ≡ showEvents ring (showAfter head)
+unfolding showAfter chunks
+whole-after head honest told =
+    ap (λ (k : List ℕ). plainReading ring k (replicate 4 true) told) (sym (append-nil (streamOf (showAfter head)) ∙ stream-after head))
+    ∙ show-complete ring (showAfter head) [] [] told honest
+
+pub body-after : (head : List ℕ) → Honest ring (showAfter head) → released (showEvents ring (showAfter head)) ≡ octets "Hello world!"
+unfolding showAfter chunks chunk bodyOf
+body-after head honest = show-released ring (showAfter head) honest
+
+-- ---- the example's head
+
+head-cut : cut isWholeHead exampleHead ≡ cutAt exampleHead []
+unfolding cut isWholeHead endsHead endsWith same
+head-cut = refl
+
+head-faultless : headFault ring exampleHead ≡ 0
+unfolding isBase64 letterValue holdsThree holdsTwo holdsOne joinedLetters base64Bytes all same lowered sameName among isDoubled isProtected isProtectedDoubled namesOf hasField valueOf endsHead headWith headOf statusDigits injectionTime blockSize blockKey headKey listedNames trustedBy textRules trustRules headFault endsWith lines beforeEmpty textLines trimmed fieldScan isFieldLine fieldOf areFieldLines fieldsOf statusScan isStatusLine statusOf numberFrom isDecimal fits firstFrom found firstBroken injectionScan isInjection bsigsScan isBsigs sig0Scan isSig0 splitNames areFields isNameList run past startsWith scan
+head-faultless = refl
+
+size-five : blockSize (headOf exampleHead) ≡ 5
+unfolding headWith headOf blockSize numberFrom lines beforeEmpty textLines trimmed fieldScan fieldOf fieldsOf valueOf sameName lowered same bsigsScan injectionScan sig0Scan run past startsWith scan
+size-five = refl
+
+-- ---- the show
+
+pub example : WholeShow
+example = showAfter exampleHead
+
+pub example-honest : Honest ring example
+unfolding example
+example-honest = honest-after exampleHead (computed-head exampleHead head-cut head-faultless) size-five
 
 pub example-whole : (told : Bool) → plainReading ring (exampleHead ++ exampleBody) (replicate 4 true) told ≡ showEvents ring example
 unfolding example
-example-whole told =
-    ap (λ (k : List ℕ). plainReading ring k (replicate 4 true) told) (sym (append-nil (streamOf example) ∙ example-stream))
-    ∙ show-complete ring example [] [] told example-honest
+example-whole told = whole-after exampleHead example-honest told
 
 pub example-body : released (showEvents ring example) ≡ octets "Hello world!"
-unfolding example chunk bodyOf
-example-body = show-released ring example example-honest
+unfolding example
+example-body = body-after exampleHead example-honest

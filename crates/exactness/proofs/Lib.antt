@@ -19,3 +19,4 @@ pub mod HonestShows
 pub mod ShowLogs
 pub mod Completeness
 pub mod Example
+pub mod RepeatedExample

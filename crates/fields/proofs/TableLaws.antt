@@ -1,22 +1,30 @@
 -- Tables of parts of a text. Assumes nothing.
-use mathlib.Core.Path.{_≡_, _∙_}
-use mathlib.Core.Bool.{true, false, _||_}
+use mathlib.Core.Path.{_≡_, refl, sym, _∙_}
+use mathlib.Core.Bool.{Bool, true, false, _&&_, _||_}
 use mathlib.Core.List.{List, [], _∷_}
 use Prim.Native.Nat.{ℕ, suc, _+_, _-_, _≤_, _<_, min}
 use native.Mathlib.Nat.{sub-zero}
 use native.Mathlib.Omega.{arith}
 use lib.ListN.{getD}
 use Rattle.stream.specs.Bytes.{sameName}
-use Rattle.stream.specs.Fields.{among, isDoubled, namesOf, valueOf}
+use Rattle.stream.specs.Fields.{among, isProtected, isProtectedDoubled, namesOf, valuesOf}
+use Rattle.text.proofs.SameLaws.{both-false}
 use Rattle.field_lines.specs.Entries.{entryName, entryValue, entryField, noEntry}
 use Rattle.field_lines.specs.declared.entry.Entry.{Entry}
 use Rattle.fields.specs.Table.{fieldsFrom, fieldsIn}
 use Rattle.fields.specs.declared.table.Fields.{Fields}
 
+-- the name is protected, and one of those after it
+abbrev pub isRefused : List ℕ → List (List ℕ) → Bool
+isRefused n ns = isProtected n && among n ns
+
 -- ---- the fields of a table from entry i on, of n
 
 abbrev pub namesFrom : List ℕ → List Entry → ℕ → ℕ → List (List ℕ)
 namesFrom text es n i = namesOf (fieldsFrom text es i (n - i))
+
+abbrev pub valuesFrom : List ℕ → List ℕ → List Entry → ℕ → ℕ → List (List ℕ)
+valuesFrom name text es n i = valuesOf name (fieldsFrom text es i (n - i))
 
 pub all-from : (text : List ℕ) (f : Fields) (n : ℕ) → n ≡ min (f .count) 64 → fieldsIn text f ≡ fieldsFrom text (f .entries) 0 (n - 0)
 unfolding fieldsIn
@@ -31,14 +39,14 @@ module _ (text : List ℕ) (es : List Entry) (n i : ℕ) where
   unfolding fieldsFrom
   from-out h = let e : n - i ≡ 0 = omega arith in rw e
 
-  -- ---- the search for two of one name
+  -- ---- the search for two of one protected name
 
-  pub rows-on : i < n → isDoubled (namesFrom text es n i) ≡ among (entryName text (getD es i noEntry)) (namesFrom text es n (i + 1)) || isDoubled (namesFrom text es n (i + 1))
-  unfolding entryField namesOf isDoubled
+  pub rows-on : i < n → isProtectedDoubled (namesFrom text es n i) ≡ isRefused (entryName text (getD es i noEntry)) (namesFrom text es n (i + 1)) || isProtectedDoubled (namesFrom text es n (i + 1))
+  unfolding entryField namesOf isProtectedDoubled
   rows-on h = rw (from-on h)
 
-  pub rows-out : n ≤ i → isDoubled (namesFrom text es n i) ≡ false
-  unfolding namesOf isDoubled
+  pub rows-out : n ≤ i → isProtectedDoubled (namesFrom text es n i) ≡ false
+  unfolding namesOf isProtectedDoubled
   rows-out h = rw (from-out h)
 
   module _ (name : List ℕ) where
@@ -56,16 +64,35 @@ module _ (text : List ℕ) (es : List Entry) (n i : ℕ) where
     unfolding namesOf among
     among-out h = rw (from-out h)
 
-    -- ---- the search for a name's value
+    -- r is whether the pair with entry i is refused
 
-    pub value-hit : i < n → sameName name (entryName text (getD es i noEntry)) ≡ true → valueOf name (fieldsFrom text es i (n - i)) ≡ entryValue text (getD es i noEntry)
-    unfolding valueOf entryField
-    value-hit h t = rw (from-on h, valueOf, t)
+    pub pair-hit : i < n → (r : Bool) → r ≡ isProtected name && sameName name (entryName text (getD es i noEntry)) → r ≡ true → isRefused name (namesFrom text es n i) ≡ true
+    pair-hit h r q t = go (isProtected name) (sym q ∙ t)
+      where
+        go : (p : Bool) → p && sameName name (entryName text (getD es i noEntry)) ≡ true → p && among name (namesFrom text es n i) ≡ true
+        go true e = among-hit h e
+        go false e = e
 
-    pub value-next : i < n → sameName name (entryName text (getD es i noEntry)) ≡ false → valueOf name (fieldsFrom text es i (n - i)) ≡ valueOf name (fieldsFrom text es (i + 1) (n - (i + 1)))
-    unfolding valueOf entryField
-    value-next h t = rw (from-on h, valueOf, t)
+    pub pair-next : i < n → (r : Bool) → r ≡ isProtected name && sameName name (entryName text (getD es i noEntry)) → r ≡ false → isRefused name (namesFrom text es n i) ≡ isRefused name (namesFrom text es n (i + 1))
+    pair-next h r q t = go (isProtected name) (sym q ∙ t)
+      where
+        go : (p : Bool) → p && sameName name (entryName text (getD es i noEntry)) ≡ false → p && among name (namesFrom text es n i) ≡ p && among name (namesFrom text es n (i + 1))
+        go true e = among-next h e
+        go false e = refl
 
-    pub value-out : n ≤ i → valueOf name (fieldsFrom text es i (n - i)) ≡ []
-    unfolding valueOf
-    value-out h = rw (from-out h)
+    pub pair-out : n ≤ i → isRefused name (namesFrom text es n i) ≡ false
+    pair-out h = rw (among-out h) (both-false (isProtected name))
+
+    -- ---- the values of a name
+
+    pub values-hit : i < n → sameName name (entryName text (getD es i noEntry)) ≡ true → valuesFrom name text es n i ≡ entryValue text (getD es i noEntry) ∷ valuesFrom name text es n (i + 1)
+    unfolding valuesOf entryField
+    values-hit h t = rw (from-on h, valuesOf, t)
+
+    pub values-next : i < n → sameName name (entryName text (getD es i noEntry)) ≡ false → valuesFrom name text es n i ≡ valuesFrom name text es n (i + 1)
+    unfolding valuesOf entryField
+    values-next h t = rw (from-on h, valuesOf, t)
+
+    pub values-out : n ≤ i → valuesFrom name text es n i ≡ []
+    unfolding valuesOf
+    values-out h = rw (from-out h)

@@ -1,5 +1,10 @@
 // The fields of a head as places in its text.
 use field_lines::Entry;
+ghost use mathlib.Core.List.{List, []};
+ghost use mathlib.Core.Path.{_≡_};
+ghost use Prim.Native.Nat.{ℕ, min};
+ghost use Rattle.stream.specs.Limits.{fieldLimit};
+ghost use Rattle.fields.specs.Table.{fieldsIn};
 
 // The most fields that a head may have.
 pub const FIELD_LIMIT: usize = 64;
@@ -15,4 +20,22 @@ pub struct Value {
     pub found: bool,
     pub start: usize,
     pub end: usize,
+}
+
+// How many fields there are.
+pub fn count(f: Fields) -> usize
+    ensures { λ r. ⌜ r ≡ min (f .count) fieldLimit ⌝ }
+{
+    places::least(f.count, FIELD_LIMIT)
+}
+
+// A table without fields.
+pub fn none() -> Fields
+    ensures { λ r. ⌜ ((text : List ℕ) → fieldsIn text r ≡ []) ⌝ }
+{
+    let nothing = field_lines::no_entry();
+    Fields {
+        count: 0,
+        entries: [nothing; FIELD_LIMIT],
+    }
 }

@@ -8,7 +8,7 @@ use Prim.Native.Nat.{ℕ, zero, suc, _-_, min}
 use lib.ListN.{length, take, drop, length-take}
 use Rattle.ring.specs.declared.KeyRing.{KeyRing}
 use Rattle.stream.specs.Limits.{headLimit, blockLimit}
-use Rattle.handing.specs.Handing.{handedValue}
+use Rattle.handing.specs.Handing.{handedValue, handedCount}
 use Rattle.handing.specs.Released.{blockPart}
 use Rattle.state.specs.Configuration.{Configuration, configuration}
 use Rattle.state.specs.declared.reader.Reader.{Reader}
@@ -62,6 +62,9 @@ block-front b m released l e f = f ∙ ap (λ (b : List ℕ). blockPart b releas
 
 pub value-front : (h : List ℕ) (m accepted : ℕ) (name l : List ℕ) → m ≡ min headLimit (length h) → l ≡ handedValue (take (m - 0) h) accepted name → l ≡ handedValue (take headLimit h) accepted name
 value-front h m accepted name l e f = f ∙ ap (λ (h : List ℕ). handedValue h accepted name) (part-is headLimit m h e)
+
+pub count-front : (h : List ℕ) (m accepted : ℕ) (name : List ℕ) (n : ℕ) → m ≡ min headLimit (length h) → n ≡ handedCount (take (m - 0) h) accepted name → n ≡ handedCount (take headLimit h) accepted name
+count-front h m accepted name n e f = f ∙ ap (λ (h : List ℕ). handedCount h accepted name) (part-is headLimit m h e)
 
 -- ---- for callers: of a part as long, put back, and the rest
 

@@ -7,7 +7,7 @@ use state::Reader;
 ghost use mathlib.Core.Path.{_≡_};
 ghost use lib.ListN.{take};
 ghost use Rattle.stream.specs.Limits.{headLimit, blockLimit};
-ghost use Rattle.handing.specs.Handing.{handedValue};
+ghost use Rattle.handing.specs.Handing.{handedCount, handedValue};
 ghost use Rattle.handing.specs.Released.{blockPart};
 ghost use Rattle.state.specs.Configuration.{configuration};
 ghost use Rattle.calls.specs.Response.{made};
@@ -82,4 +82,12 @@ pub fn field_part<'a>(head: &'a [u8], accepted: usize, name: &[u8]) -> &'a [u8]
 {
     let n = least(HEAD_ROOM, head.len());
     reader::field_part(&head[0..n], accepted, name)
+}
+
+// How many lines there are of a signed field.
+pub fn field_count(head: &[u8], accepted: usize, name: &[u8]) -> usize
+    ensures { λ r. ⌜ r ≡ handedCount (take headLimit (now (head .entry))) accepted (now (name .entry)) ⌝ }
+{
+    let n = least(HEAD_ROOM, head.len());
+    reader::field_count(&head[0..n], accepted, name)
 }

@@ -7,7 +7,7 @@ use native.Mathlib.Omega.{arith}
 use lib.Dec.{leb}
 use lib.ListN.{length, take, drop, length-take, length-map}
 use lib.Seq.{take-nil}
-use Rattle.stream.specs.Fields.{isDoubled, namesOf}
+use Rattle.stream.specs.Fields.{isProtectedDoubled, namesOf}
 use Rattle.stream.specs.Head.{headOf, headWith, endsHead, statusDigits}
 use Rattle.stream.specs.Limits.{fieldLimit}
 use Rattle.stream.specs.Lines.{crlf, endsWith, lines, beforeEmpty, textLines, isStatusLine, statusOf, areFieldLines, fieldOf, fieldsOf}
@@ -55,15 +55,15 @@ status-place s h =
 -- the lines after the first, and what was read of them
 module _ (s : List ℕ) (ls : List (List ℕ)) (r : FieldsRead) (x : ReadsFields s ls r) where
   abbrev doubled : Bool
-  doubled = isDoubled (namesOf (fieldsIn s (r .fields)))
+  doubled = isProtectedDoubled (namesOf (fieldsIn s (r .fields)))
 
-  fields-kept : r .good && not doubled ≡ areFieldLines ls && (leb (length (fieldsOf ls)) fieldLimit && not (isDoubled (namesOf (fieldsOf ls))))
+  fields-kept : r .good && not doubled ≡ areFieldLines ls && (leb (length (fieldsOf ls)) fieldLimit && not (isProtectedDoubled (namesOf (fieldsOf ls))))
   unfolding fieldsOf
   fields-kept =
-      let d = not (isDoubled (namesOf (fieldsOf ls))) in
+      let d = not (isProtectedDoubled (namesOf (fieldsOf ls))) in
       go (r .good) refl ∙ ap (λ (b : Bool). b && d) (fields-good x) ∙ and-assoc (areFieldLines ls) (leb (length ls) fieldLimit) d ∙ rw (length-map ls fieldOf)
     where
-      go : (g : Bool) → r .good ≡ g → g && not doubled ≡ g && not (isDoubled (namesOf (fieldsOf ls)))
+      go : (g : Bool) → r .good ≡ g → g && not doubled ≡ g && not (isProtectedDoubled (namesOf (fieldsOf ls)))
       go true e = rw (fields-are x e)
       go false e = refl
 
@@ -87,7 +87,7 @@ module _ (s : List ℕ) (e : ℕ) (f : e ≡ 0 + lineLength s) (r : FieldsRead) 
       go false k = rw (first-line s e (omega arith), k)
 
   pub reads-lines : (a b d : Bool) (line : List ℕ) → a ≡ endsWith (crlf ++ crlf) s → b ≡ isStatusLine line → line ≡ partOf s 0 e
-      → d ≡ isDoubled (namesOf (fieldsIn s (r .fields))) → ReadsLines s (record { good = a && (b && (r .good && not d)); fields = r .fields })
+      → d ≡ isProtectedDoubled (namesOf (fieldsIn s (r .fields))) → ReadsLines s (record { good = a && (b && (r .good && not d)); fields = r .fields })
   unfolding endsHead
   reads-lines a b d line p q l o =
       let z : b ≡ isStatusLine (partOf s 0 e) = q ∙ ap isStatusLine l in

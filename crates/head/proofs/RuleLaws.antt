@@ -8,7 +8,7 @@ use lib.ListN.{length}
 use Rattle.octets.specs.Choice.{pick}
 use Rattle.octets.specs.Octets.{octets}
 use Rattle.stream.specs.Bytes.{same, sameName}
-use Rattle.stream.specs.Fields.{isDoubled, namesOf, hasField, valueOf}
+use Rattle.stream.specs.Fields.{isProtectedDoubled, namesOf, hasField, valueOf}
 use Rattle.stream.specs.Head.{Head, endsHead, isStatus, statusDigits, listedNames, textRules}
 use Rattle.stream.specs.Limits.{fieldLimit}
 use Rattle.stream.specs.Lines.{isStatusLine, areFieldLines}
@@ -43,7 +43,7 @@ flat a b c d = and-assoc a (b && c) d ∙ ap (_&&_ a) (and-assoc b c d)
 pub fault-is : (l : List ℕ) (h : Head) → firstBroken (textRules l h) ≡ faultOf (areGoodLines l h) (firstBroken (versionRules (h .fields))) (isSound h)
 unfolding listedNames firstBroken textRules areGoodLines versionRules isPlain areSigned isSound faultOf
 fault-is l h =
-    let d = not (isDoubled (namesOf (h .fields))) in
+    let d = not (isProtectedDoubled (namesOf (h .fields))) in
     let lines = endsHead l ∷ isStatusLine (h .statusLine) ∷ areFieldLines (h .fieldLines) ∷ leb (length (h .fields)) fieldLimit ∷ d ∷ [] in
     let chunked = sameName (valueOf (octets "transfer-encoding") (h .fields)) (octets "chunked") in
     let unsized = not (hasField (octets "content-length") (h .fields)) in

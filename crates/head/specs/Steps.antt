@@ -8,7 +8,7 @@ use lib.ListN.{length}
 use Rattle.octets.specs.Choice.{pick}
 use Rattle.octets.specs.Octets.{octets}
 use Rattle.stream.specs.Bytes.{same, sameName}
-use Rattle.stream.specs.Fields.{isDoubled, namesOf, hasField, valueOf}
+use Rattle.stream.specs.Fields.{isProtectedDoubled, namesOf, hasField, valueOf}
 use Rattle.stream.specs.Head.{Head, headOf, endsHead, isStatus, statusDigits}
 use Rattle.stream.specs.Limits.{fieldLimit}
 use Rattle.stream.specs.Lines.{Field, isStatusLine, areFieldLines}
@@ -30,7 +30,7 @@ unfoldable pub areGoodLines : List ℕ → Head → Bool
 areGoodLines l h =
     endsHead l
     && (isStatusLine (h .statusLine)
-    && (areFieldLines (h .fieldLines) && (leb (length (h .fields)) fieldLimit && not (isDoubled (namesOf (h .fields))))))
+    && (areFieldLines (h .fieldLines) && (leb (length (h .fields)) fieldLimit && not (isProtectedDoubled (namesOf (h .fields))))))
 
 -- where they are kept the table has the head's fields
 pub record ReadsLines (text : List ℕ) (r : LinesRead) : Type 0 where

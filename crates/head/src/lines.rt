@@ -1,4 +1,4 @@
-// The lines of a head: its end, the status line, the field lines, and that no two fields have one name.
+// The lines of a head: its end, the status line, the field lines, and that no protected name is there twice.
 use fields::Fields;
 ghost use Rattle.head.specs.Steps.{ReadsLines};
 

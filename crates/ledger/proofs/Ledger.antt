@@ -1,10 +1,10 @@
 -- The points of the rules ledger that concern what is read, as a second table about the definitions: each row is one input,
 -- with the number of its point, what the definitions make of it and what paper 01 says is due. One computed test covers the
--- table. The dues were written from the paper, not from the definitions. Assumes nothing.
-use mathlib.Core.Bool.{Bool, true, false, _&&_}
+-- table. The dues were written from the paper, and from the requests that amend it, not from the definitions. Assumes nothing.
+use mathlib.Core.Bool.{Bool, true, false}
 use mathlib.Core.List.{List, [], _∷_, _++_}
 use mathlib.Core.Path.{_≡_, refl}
-use Prim.Native.Nat.{ℕ, zero, suc, _+_, _-_, _*_}
+use Prim.Native.Nat.{ℕ, zero, suc, _-_}
 use Prim.Native.String.{String}
 use lib.ListN.{length, replicate, take, drop, set}
 use Rattle.octets.specs.Octets.{octets}
@@ -15,15 +15,15 @@ use Rattle.sections.specs.Reading.{Event, question, message, last, Log, cut, se
 use Rattle.stream.specs.Blocks.{isWholeLine, carriesSignature, isChunkLine, chunkSize, lineSignature, lineRules, lineFault, chained, blockMessage}
 use Rattle.stream.specs.Bytes.{all, same, lowered, sameName}
 use Rattle.stream.specs.Events.{Question, Release, headAccepted, block, LastWord, closed, refused}
-use Rattle.stream.specs.Fields.{among, isDoubled, namesOf, hasField, valueOf}
+use Rattle.stream.specs.Fields.{among, isDoubled, isProtected, isProtectedDoubled, namesOf, hasField, valueOf, valuesOf}
 use Rattle.stream.specs.Head.{endsHead, isWholeHead, headWith, headOf, statusDigits, injectionId, injectionTime, blockSize, blockKey, headKey, listedNames, headSignature, signedOf, signingString, trustedBy, textRules, trustRules, headFault}
 use Rattle.stream.specs.Lines.{endsWith, lines, beforeEmpty, textLines, trimmed, fieldScan, isFieldLine, fieldOf, areFieldLines, fieldsOf, statusScan, isStatusLine, statusOf}
 use Rattle.stream.specs.Numbers.{numberFrom, hexValue, isDecimal, isHexNumber, decimalWithin, decimal}
 use Rattle.stream.specs.Ring.{Ring, fits, firstFrom, found}
 use Rattle.stream.specs.Rule.{firstBroken}
 use Rattle.stream.specs.Signatures.{injectionScan, isInjection, bsigsScan, isBsigs, sig0Scan, isSig0, splitNames, areFields, isNameList}
-use Rattle.stream.specs.Signing.{signedFields, signingLine, signingText}
-use Rattle.stream.specs.Stream.{Show, Context, head, firstLine, nextLine, trailer, isWhole, showOf, headQuestion, acceptHead, judgeHead, judgeFirstLine, judgeDataEnd, blockQuestion, acceptBlock, judgeNextLine, judgeTrailer, judge, rules, plainReading}
+use Rattle.stream.specs.Signing.{separated, signedFields, joinedFields, signingLine, signingText}
+use Rattle.stream.specs.Stream.{Show, firstLine, nextLine, trailer, isWhole, showOf, headQuestion, acceptHead, judgeHead, judgeFirstLine, judgeDataEnd, blockQuestion, acceptBlock, judgeNextLine, judgeTrailer, judge, rules, plainReading}
 use Rattle.stream.specs.Template.{run, past, startsWith, scan}
 use Rattle.stream.specs.Trailer.{endsTrailer, isWholeTrailer, isTrailer}
 use Rattle.stream.proofs.Example.{key, signature, signedLine, injection, exampleHead, ring}
@@ -329,14 +329,21 @@ headTexts =
     (4 ∷ 3 ∷ 3 ∷ [])
     ∷ row 8 "64 fields, and 65" (fault (headLines ++ extraLines (extraNames 56)) ++ fault (headLines ++ extraLines (extraNames 57))) (0 ∷ 3 ∷ [])
     ∷ row 8 "a doubled name, in another case, signed or not, and names that are only alike"
-    (fault (headLines ++ (octets "DATE: x") ∷ [])
-    ++ fault (headLines ++ (octets "Via: x") ∷ (octets "vIA: y") ∷ [])
+    (fault (headLines ++ (octets "X-OUINET-URI: x") ∷ [])
+    ++ fault (headLines ++ (octets "x-ouinet-a: x") ∷ (octets "X-Ouinet-A: y") ∷ [])
     ++ fault (headLines ++ (octets "transfer-encoding: chunked") ∷ [])
+    ++ fault (headLines ++ (octets "Content-Length: 1") ∷ (octets "content-length: 1") ∷ [])
     ++ fault (headLines ++ (octets "a@b") ∷ [])
     ++ fault (headLines ++ (octets "a^: x") ∷ (octets "a~: x") ∷ (octets "date-: x") ∷ (octets "dat: x") ∷ []))
-    (3 ∷ 3 ∷ 3 ∷ 3 ∷ 0 ∷ [])
+    (3 ∷ 3 ∷ 3 ∷ 3 ∷ 3 ∷ 0 ∷ [])
+    ∷ row 8 "as request #102 amends it: any other name may be doubled, signed or not, and the rules after it are then tested"
+    (fault (headLines ++ (octets "DATE: x") ∷ [])
+    ++ fault (headLines ++ (octets "Via: x") ∷ (octets "vIA: y") ∷ [])
+    ++ fault (put version (octets "X-Ouinet-Version: 5") headLines ++ (octets "date: x") ∷ [])
+    ++ fault (without coding headLines ++ (octets "date: x") ∷ []))
+    (0 ∷ 0 ∷ 5 ∷ 4 ∷ [])
     ∷ row 8 "3 goes before all else"
-    (fault (put version (octets "X-Ouinet-Version: 5") headLines ++ (octets "date: x") ∷ [])
+    (fault (put version (octets "X-Ouinet-Version: 5") headLines ++ (octets "x-ouinet-version: 4") ∷ [])
     ++ fault (put status (octets "HTTP/1.1 404 x") headLines ++ (octets "Bad") ∷ [])
     ++ fault (without version headLines ++ extraLines (extraNames 58)))
     (3 ∷ 3 ∷ 3 ∷ [])
@@ -526,6 +533,9 @@ headRules =
     ∷ row 16 "names in lower case as listed, values as trimmed, `created` as given"
     (signingString (headOf (asLines (put status (octets "HTTP/1.1 301 ") (put date (octets "DATE:\t a\tB  c \t") (put sig0s (sig0 key (octets ",algorithm=\"hs2019\",created=0,") (octets "(Response-Status) (CREATED) Date X-OUINET-INJECTION x-ouinet-uri X-Ouinet-Version x-e") signature) headLines)) ++ (octets "X-E:") ∷ []))))
     (octets "(response-status): 301\n(created): 0\ndate: a\tB  c\nx-ouinet-injection: id=qwertyuiop-12345,ts=1584748800\nx-ouinet-uri: https://example.com/hello\nx-ouinet-version: 4\nx-e: ")
+    ∷ row 16 "as request #102 amends it: the values of a field that is there more than once, in order, with a comma and a space"
+    (signingString (headOf (asLines (put date (octets "DATE: a \t") (put sig0s (sig0 key middle (octets "(response-status) (created) Date x-ouinet-uri") signature) headLines) ++ (octets "date:") ∷ (octets "dATE:\tb") ∷ []))))
+    (octets "(response-status): 200\n(created): 1584748800\ndate: a, , b\nx-ouinet-uri: https://example.com/hello")
     ∷ []
 
 -- chunk lines, blocks and their messages
@@ -617,15 +627,15 @@ hashes =
     ∷ []
 
 headTexts-hold : broken 0 headTexts ≡ []
-unfolding headTexts isBase64 letterValue holdsThree holdsTwo holdsOne joinedLetters base64Bytes cut sections readingAt reading isWholeLine carriesSignature isChunkLine chunkSize lineSignature lineRules lineFault chained blockMessage all same lowered sameName among isDoubled namesOf hasField valueOf endsHead isWholeHead headWith headOf statusDigits injectionId injectionTime blockSize blockKey headKey listedNames headSignature signedOf signingString trustedBy textRules trustRules headFault endsWith lines beforeEmpty textLines trimmed fieldScan isFieldLine fieldOf areFieldLines fieldsOf statusScan isStatusLine statusOf numberFrom isDecimal isHexNumber decimalWithin decimal fits firstFrom found firstBroken injectionScan isInjection bsigsScan isBsigs sig0Scan isSig0 splitNames areFields isNameList signedFields signingLine signingText isWhole showOf headQuestion acceptHead judgeHead judgeFirstLine judgeDataEnd blockQuestion acceptBlock judgeNextLine judgeTrailer judge rules plainReading bigEndian padding padded number parsed schedule round rounds sums compressed hashed unparsed digest roundWords sha512 run past startsWith scan endsTrailer isWholeTrailer isTrailer
+unfolding headTexts isBase64 letterValue holdsThree holdsTwo holdsOne joinedLetters base64Bytes cut sections readingAt reading isWholeLine carriesSignature isChunkLine chunkSize lineSignature lineRules lineFault chained blockMessage all same lowered sameName among isDoubled isProtected isProtectedDoubled namesOf hasField valueOf valuesOf endsHead isWholeHead headWith headOf statusDigits injectionId injectionTime blockSize blockKey headKey listedNames headSignature signedOf signingString trustedBy textRules trustRules headFault endsWith lines beforeEmpty textLines trimmed fieldScan isFieldLine fieldOf areFieldLines fieldsOf statusScan isStatusLine statusOf numberFrom isDecimal isHexNumber decimalWithin decimal fits firstFrom found firstBroken injectionScan isInjection bsigsScan isBsigs sig0Scan isSig0 splitNames areFields isNameList separated signedFields joinedFields signingLine signingText isWhole showOf headQuestion acceptHead judgeHead judgeFirstLine judgeDataEnd blockQuestion acceptBlock judgeNextLine judgeTrailer judge rules plainReading bigEndian padding padded number parsed schedule round rounds sums compressed hashed unparsed digest roundWords sha512 run past startsWith scan endsTrailer isWholeTrailer isTrailer
 headTexts-hold = refl
 
 headRules-hold : broken 0 headRules ≡ []
-unfolding headRules isBase64 letterValue holdsThree holdsTwo holdsOne joinedLetters base64Bytes cut sections readingAt reading isWholeLine carriesSignature isChunkLine chunkSize lineSignature lineRules lineFault chained blockMessage all same lowered sameName among isDoubled namesOf hasField valueOf endsHead isWholeHead headWith headOf statusDigits injectionId injectionTime blockSize blockKey headKey listedNames headSignature signedOf signingString trustedBy textRules trustRules headFault endsWith lines beforeEmpty textLines trimmed fieldScan isFieldLine fieldOf areFieldLines fieldsOf statusScan isStatusLine statusOf numberFrom isDecimal isHexNumber decimalWithin decimal fits firstFrom found firstBroken injectionScan isInjection bsigsScan isBsigs sig0Scan isSig0 splitNames areFields isNameList signedFields signingLine signingText isWhole showOf headQuestion acceptHead judgeHead judgeFirstLine judgeDataEnd blockQuestion acceptBlock judgeNextLine judgeTrailer judge rules plainReading bigEndian padding padded number parsed schedule round rounds sums compressed hashed unparsed digest roundWords sha512 run past startsWith scan endsTrailer isWholeTrailer isTrailer
+unfolding headRules isBase64 letterValue holdsThree holdsTwo holdsOne joinedLetters base64Bytes cut sections readingAt reading isWholeLine carriesSignature isChunkLine chunkSize lineSignature lineRules lineFault chained blockMessage all same lowered sameName among isDoubled isProtected isProtectedDoubled namesOf hasField valueOf valuesOf endsHead isWholeHead headWith headOf statusDigits injectionId injectionTime blockSize blockKey headKey listedNames headSignature signedOf signingString trustedBy textRules trustRules headFault endsWith lines beforeEmpty textLines trimmed fieldScan isFieldLine fieldOf areFieldLines fieldsOf statusScan isStatusLine statusOf numberFrom isDecimal isHexNumber decimalWithin decimal fits firstFrom found firstBroken injectionScan isInjection bsigsScan isBsigs sig0Scan isSig0 splitNames areFields isNameList separated signedFields joinedFields signingLine signingText isWhole showOf headQuestion acceptHead judgeHead judgeFirstLine judgeDataEnd blockQuestion acceptBlock judgeNextLine judgeTrailer judge rules plainReading bigEndian padding padded number parsed schedule round rounds sums compressed hashed unparsed digest roundWords sha512 run past startsWith scan endsTrailer isWholeTrailer isTrailer
 headRules-hold = refl
 
 blockRules-hold : broken 0 blockRules ≡ []
-unfolding blockRules isBase64 letterValue holdsThree holdsTwo holdsOne joinedLetters base64Bytes cut sections readingAt reading isWholeLine carriesSignature isChunkLine chunkSize lineSignature lineRules lineFault chained blockMessage all same lowered sameName among isDoubled namesOf hasField valueOf endsHead isWholeHead headWith headOf statusDigits injectionId injectionTime blockSize blockKey headKey listedNames headSignature signedOf signingString trustedBy textRules trustRules headFault endsWith lines beforeEmpty textLines trimmed fieldScan isFieldLine fieldOf areFieldLines fieldsOf statusScan isStatusLine statusOf numberFrom isDecimal isHexNumber decimalWithin decimal fits firstFrom found firstBroken injectionScan isInjection bsigsScan isBsigs sig0Scan isSig0 splitNames areFields isNameList signedFields signingLine signingText isWhole showOf headQuestion acceptHead judgeHead judgeFirstLine judgeDataEnd blockQuestion acceptBlock judgeNextLine judgeTrailer judge rules plainReading bigEndian padding padded number parsed schedule round rounds sums compressed hashed unparsed digest roundWords sha512 run past startsWith scan endsTrailer isWholeTrailer isTrailer
+unfolding blockRules isBase64 letterValue holdsThree holdsTwo holdsOne joinedLetters base64Bytes cut sections readingAt reading isWholeLine carriesSignature isChunkLine chunkSize lineSignature lineRules lineFault chained blockMessage all same lowered sameName among isDoubled isProtected isProtectedDoubled namesOf hasField valueOf valuesOf endsHead isWholeHead headWith headOf statusDigits injectionId injectionTime blockSize blockKey headKey listedNames headSignature signedOf signingString trustedBy textRules trustRules headFault endsWith lines beforeEmpty textLines trimmed fieldScan isFieldLine fieldOf areFieldLines fieldsOf statusScan isStatusLine statusOf numberFrom isDecimal isHexNumber decimalWithin decimal fits firstFrom found firstBroken injectionScan isInjection bsigsScan isBsigs sig0Scan isSig0 splitNames areFields isNameList separated signedFields joinedFields signingLine signingText isWhole showOf headQuestion acceptHead judgeHead judgeFirstLine judgeDataEnd blockQuestion acceptBlock judgeNextLine judgeTrailer judge rules plainReading bigEndian padding padded number parsed schedule round rounds sums compressed hashed unparsed digest roundWords sha512 run past startsWith scan endsTrailer isWholeTrailer isTrailer
 blockRules-hold = refl
 
 hashes-hold : broken 0 hashes ≡ []

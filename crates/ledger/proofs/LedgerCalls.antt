@@ -1,27 +1,26 @@
 -- The points of the rules ledger that concern lists of calls as a table about the definitions of `Calls`: each row is a list of
 -- calls, with the number of its point and what each call is due to return. Assumes nothing.
-use mathlib.Core.Bool.{Bool, true, false, _&&_}
+use mathlib.Core.Bool.{true, false}
 use mathlib.Core.List.{List, [], _∷_, _++_}
 use mathlib.Core.Path.{_≡_, refl}
-use Prim.Native.Nat.{ℕ, suc}
-use lib.ListN.{length, replicate, drop}
+use Prim.Native.Nat.{ℕ}
 use Rattle.octets.specs.Octets.{octets}
 use Rattle.base64.specs.Base64.{isBase64, letterValue, holdsThree, holdsTwo, holdsOne, joinedLetters, base64Bytes}
 use Rattle.hash.specs.Sha2.{bigEndian, padding, padded, number, parsed, schedule, round, rounds, sums, compressed, hashed, unparsed, digest}
 use Rattle.hash.specs.Sha512.{roundWords, sha512}
 use Rattle.sections.specs.Calls.{feed, answer, end, Call, call, Reply, more, event, misused, Out, standing, readRequest, readCall, readFrom, readCalls}
-use Rattle.sections.specs.Reading.{Event, question, message, last, cut, sections, readingAt, reading}
+use Rattle.sections.specs.Reading.{cut, sections, readingAt, reading}
 use Rattle.stream.specs.Blocks.{isWholeLine, carriesSignature, isChunkLine, chunkSize, lineSignature, lineRules, lineFault, chained, blockMessage}
 use Rattle.stream.specs.Bytes.{all, same, lowered, sameName}
 use Rattle.stream.specs.Events.{Question, Release, LastWord}
-use Rattle.stream.specs.Fields.{among, isDoubled, namesOf, hasField, valueOf}
+use Rattle.stream.specs.Fields.{among, isDoubled, isProtected, isProtectedDoubled, namesOf, hasField, valueOf, valuesOf}
 use Rattle.stream.specs.Head.{endsHead, isWholeHead, headWith, headOf, statusDigits, injectionId, injectionTime, blockSize, blockKey, headKey, listedNames, headSignature, signedOf, signingString, trustedBy, textRules, trustRules, headFault}
 use Rattle.stream.specs.Lines.{endsWith, lines, beforeEmpty, textLines, trimmed, fieldScan, isFieldLine, fieldOf, areFieldLines, fieldsOf, statusScan, isStatusLine, statusOf}
 use Rattle.stream.specs.Numbers.{numberFrom, isDecimal, isHexNumber, decimalWithin, decimal}
 use Rattle.stream.specs.Ring.{fits, firstFrom, found}
 use Rattle.stream.specs.Rule.{firstBroken}
 use Rattle.stream.specs.Signatures.{injectionScan, isInjection, bsigsScan, isBsigs, sig0Scan, isSig0, splitNames, areFields, isNameList}
-use Rattle.stream.specs.Signing.{signedFields, signingLine, signingText}
+use Rattle.stream.specs.Signing.{separated, signedFields, joinedFields, signingLine, signingText}
 use Rattle.stream.specs.Stream.{Context, head, firstLine, trailer, isWhole, showOf, headQuestion, acceptHead, judgeHead, judgeFirstLine, judgeDataEnd, blockQuestion, acceptBlock, judgeNextLine, judgeTrailer, judge, rules}
 use Rattle.stream.specs.Template.{run, past, startsWith, scan}
 use Rattle.stream.specs.Trailer.{endsTrailer, isWholeTrailer, isTrailer}
@@ -76,5 +75,5 @@ calledRows =
     ∷ []
 
 pub called-rows-hold : broken 0 calledRows ≡ []
-unfolding calledRows standing readRequest readCall readFrom readCalls isBase64 letterValue holdsThree holdsTwo holdsOne joinedLetters base64Bytes cut sections readingAt reading isWholeLine carriesSignature isChunkLine chunkSize lineSignature lineRules lineFault chained blockMessage all same lowered sameName among isDoubled namesOf hasField valueOf endsHead isWholeHead headWith headOf statusDigits injectionId injectionTime blockSize blockKey headKey listedNames headSignature signedOf signingString trustedBy textRules trustRules headFault endsWith lines beforeEmpty textLines trimmed fieldScan isFieldLine fieldOf areFieldLines fieldsOf statusScan isStatusLine statusOf numberFrom isDecimal isHexNumber decimalWithin decimal fits firstFrom found firstBroken injectionScan isInjection bsigsScan isBsigs sig0Scan isSig0 splitNames areFields isNameList signedFields signingLine signingText isWhole showOf headQuestion acceptHead judgeHead judgeFirstLine judgeDataEnd blockQuestion acceptBlock judgeNextLine judgeTrailer judge rules bigEndian padding padded number parsed schedule round rounds sums compressed hashed unparsed digest roundWords sha512 run past startsWith scan endsTrailer isWholeTrailer isTrailer
+unfolding calledRows standing readRequest readCall readFrom readCalls isBase64 letterValue holdsThree holdsTwo holdsOne joinedLetters base64Bytes cut sections readingAt reading isWholeLine carriesSignature isChunkLine chunkSize lineSignature lineRules lineFault chained blockMessage all same lowered sameName among isDoubled isProtected isProtectedDoubled namesOf hasField valueOf valuesOf endsHead isWholeHead headWith headOf statusDigits injectionId injectionTime blockSize blockKey headKey listedNames headSignature signedOf signingString trustedBy textRules trustRules headFault endsWith lines beforeEmpty textLines trimmed fieldScan isFieldLine fieldOf areFieldLines fieldsOf statusScan isStatusLine statusOf numberFrom isDecimal isHexNumber decimalWithin decimal fits firstFrom found firstBroken injectionScan isInjection bsigsScan isBsigs sig0Scan isSig0 splitNames areFields isNameList separated signedFields joinedFields signingLine signingText isWhole showOf headQuestion acceptHead judgeHead judgeFirstLine judgeDataEnd blockQuestion acceptBlock judgeNextLine judgeTrailer judge rules bigEndian padding padded number parsed schedule round rounds sums compressed hashed unparsed digest roundWords sha512 run past startsWith scan endsTrailer isWholeTrailer isTrailer
 called-rows-hold = refl

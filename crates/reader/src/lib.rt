@@ -7,6 +7,7 @@ pub use calls::answer;
 pub use calls::end;
 pub use feeding::feed;
 pub use handing::block_part;
+pub use handing::field_count;
 pub use handing::field_part;
 pub use state::Reader;
 pub use state::Word;

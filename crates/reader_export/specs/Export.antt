@@ -7,7 +7,7 @@ use lib.Dec.{eqb, leb}
 use lib.ListN.{length, take}
 use Rattle.octets.specs.Choice.{pick}
 use Rattle.stream.specs.Limits.{headLimit, blockLimit}
-use Rattle.handing.specs.Handing.{handedValue}
+use Rattle.handing.specs.Handing.{handedValue, handedCount}
 use Rattle.packing.specs.Keys.{keysIn}
 use Rattle.packing.specs.Parts.{Placed, placing, placed}
 use Rattle.results.specs.Written.{Answer, made, areLong, answered}
@@ -63,3 +63,6 @@ blockIn s b = pick (leb stateSize (length s)) (blockPart (take blockLimit b) (de
 unfoldable pub valueIn : List ℕ → List ℕ → List ℕ → List ℕ → Placed
 valueIn s h name v =
     pick (leb stateSize (length s)) (placed (handedValue (take headLimit h) (decoded s .fixed .accepted) name) v) (placing 0 v)
+
+unfoldable pub countIn : List ℕ → List ℕ → List ℕ → ℕ
+countIn s h name = pick (leb stateSize (length s)) (handedCount (take headLimit h) (decoded s .fixed .accepted) name) 0

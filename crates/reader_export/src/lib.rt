@@ -12,7 +12,7 @@ ghost use Rattle.packing.specs.Parts.{placing};
 ghost use Rattle.layout.specs.State.{stateSize, decoded};
 ghost use Rattle.state.specs.Configuration.{freshReader};
 ghost use Rattle.results.specs.Written.{made, areLong};
-ghost use Rattle.reader_export.specs.Export.{called, begun, begunIn, feedIn, answerIn, endIn, isYes, blockIn, valueIn};
+ghost use Rattle.reader_export.specs.Export.{called, begun, begunIn, feedIn, answerIn, endIn, isYes, blockIn, valueIn, countIn};
 
 // The answer where the buffer of the state or of the result is too short.
 const SHORT: u8 = 255;
@@ -130,4 +130,17 @@ pub extern "C" fn ouinet_reader_value(
     let accepted = fixed.accepted;
     let part = fronts::field_part(head, accepted, name);
     packing::place(part, value)
+}
+
+// How many lines of the accepted head have that signed field.
+#[no_mangle]
+pub extern "C" fn ouinet_reader_value_count(state: &[u8], head: &[u8], name: &[u8]) -> usize
+    ensures { λ r. ⌜ r ≡ countIn (now (state .entry)) (now (head .entry)) (now (name .entry)) ⌝ }
+{
+    if state.len() < STATE_SIZE {
+        return 0;
+    }
+    let r = layout::load(state);
+    let fixed = r.fixed;
+    fronts::field_count(head, fixed.accepted, name)
 }

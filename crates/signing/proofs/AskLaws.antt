@@ -4,7 +4,7 @@ use mathlib.Core.Path.{_≡_, ap, _∙_}
 use Prim.Native.Nat.{ℕ, _≤_}
 use native.Mathlib.Nat.{le-trans}
 use lib.ListN.{length, drop}
-use Rattle.stream.specs.Head.{headOf, blockSize, injectionId, headSignature, signedOf, signingString}
+use Rattle.stream.specs.Head.{headOf, blockSize, injectionId, headSignature, signingString}
 use Rattle.stream.proofs.SigningSize.{signing-fits′}
 use Rattle.places.specs.Place.{partOf}
 use Rattle.places.specs.Writing.{Placed, placed, wrote}
@@ -29,7 +29,7 @@ module _ (text : List ℕ) (r : HeadRead) (x : Reads text r) (z : r .fault ≡ 0
     string = stringOf (fieldsIn text (r .fields)) (namesIn list (r .signed .names)) digits seconds
 
     string-there : string ≡ signingString (headOf text)
-    unfolding stringOf signingString signedOf
+    unfolding stringOf signingString
     string-there = rw (names-there text r x z list l, x .says z .fields, d ∙ digits-there text r x z, s ∙ created-there text r x z)
 
     string-fits : length (signingString (headOf text)) ≤ length text

@@ -15,8 +15,8 @@ fn put_fields(text: &[u8], f: Fields, list: &[u8], n: Names, out: &mut [u8], fro
     let mut at = from;
     let mut i = 2;
     while i < end {
-        let name = names::name(list, n, i);
-        at = line::put_next(out, at, name, fields::value_of(text, f, name));
+        let start = places::put(out, at, b"\n");
+        at = line::put_field(text, f, names::name(list, n, i), out, start);
         i += 1;
     }
     at
@@ -34,6 +34,7 @@ pub(crate) fn put_string(
     ensures { λ r. ⌜ placed r (now (out .exit)) ≡ wrote (now (out .entry)) 0 (stringIn (now (text .entry)) f (now (list .entry)) n (now (digits .entry)) (now (created .entry))) ⌝ }
 {
     let second = line::put_line(out, 0, b"(response-status)", digits);
-    let third = line::put_next(out, second, b"(created)", created);
+    let start = places::put(out, second, b"\n");
+    let third = line::put_line(out, start, b"(created)", created);
     put_fields(text, f, list, n, out, third)
 }

@@ -3,30 +3,29 @@
 use mathlib.Core.Bool.{Bool, true, false, _&&_}
 use mathlib.Core.List.{List, [], _∷_, _++_}
 use mathlib.Core.Path.{_≡_, refl}
-use Prim.Native.Nat.{ℕ, zero, suc, _+_}
+use Prim.Native.Nat.{ℕ, _+_}
 use Prim.Native.String.{String}
-use lib.Dec.{eqb}
 use lib.ListN.{length, replicate}
 use Rattle.octets.specs.Octets.{octets}
 use Rattle.base64.specs.Base64.{isBase64, letterValue, holdsThree, holdsTwo, holdsOne, joinedLetters, base64Bytes}
 use Rattle.hash.specs.Sha2.{bigEndian, padding, padded, number, parsed, schedule, round, rounds, sums, compressed, hashed, unparsed, digest}
 use Rattle.hash.specs.Sha512.{roundWords, sha512}
-use Rattle.sections.specs.Reading.{Event, question, message, last, Log, Verdict, go, tell, ask, stop, cut, sections, readingAt, reading}
+use Rattle.sections.specs.Reading.{Event, question, message, last, Log, go, tell, ask, stop, cut, sections, readingAt, reading}
 use Rattle.stream.specs.Blocks.{isWholeLine, carriesSignature, isChunkLine, chunkSize, lineSignature, lineRules, lineFault, chained, blockMessage}
 use Rattle.stream.specs.Bytes.{all, same, lowered, sameName}
 use Rattle.stream.specs.Events.{Question, Release, headAccepted, block, LastWord, closed, refused}
-use Rattle.stream.specs.Fields.{among, isDoubled, namesOf, hasField, valueOf}
+use Rattle.stream.specs.Fields.{among, isDoubled, isProtected, isProtectedDoubled, namesOf, hasField, valueOf, valuesOf}
 use Rattle.stream.specs.Head.{endsHead, isWholeHead, headWith as readHead, headOf, statusDigits, injectionId, injectionTime, blockSize, blockKey, headKey, listedNames, headSignature, signedOf, signingString, trustedBy, textRules, trustRules, headFault}
 use Rattle.stream.specs.Lines.{endsWith, lines, beforeEmpty, textLines, trimmed, fieldScan, isFieldLine, fieldOf, areFieldLines, fieldsOf, statusScan, isStatusLine, statusOf}
 use Rattle.stream.specs.Numbers.{numberFrom, isDecimal, isHexNumber, decimalWithin, decimal}
 use Rattle.stream.specs.Ring.{fits, firstFrom, found}
 use Rattle.stream.specs.Rule.{firstBroken}
 use Rattle.stream.specs.Signatures.{injectionScan, isInjection, bsigsScan, isBsigs, sig0Scan, isSig0, splitNames, areFields, isNameList}
-use Rattle.stream.specs.Signing.{signedFields, signingLine, signingText}
-use Rattle.stream.specs.Stream.{Context, head, firstLine, blockData, dataEnd, nextLine, trailer, isWhole, Says, showOf, headQuestion, acceptHead, judgeHead, judgeFirstLine, judgeDataEnd, blockQuestion, acceptBlock, judgeNextLine, judgeTrailer, judge, rules, plainReading}
+use Rattle.stream.specs.Signing.{separated, signedFields, joinedFields, signingLine, signingText}
+use Rattle.stream.specs.Stream.{head, firstLine, blockData, dataEnd, nextLine, trailer, isWhole, Says, showOf, headQuestion, acceptHead, judgeHead, judgeFirstLine, judgeDataEnd, blockQuestion, acceptBlock, judgeNextLine, judgeTrailer, judge, rules, plainReading}
 use Rattle.stream.specs.Template.{run, past, startsWith, scan}
 use Rattle.stream.specs.Trailer.{endsTrailer, isWholeTrailer, isTrailer}
-use Rattle.stream.proofs.Example.{signature, signedLine, injection, headWith, exampleHead, exampleBody, ring, show}
+use Rattle.stream.proofs.Example.{signedLine, injection, headWith, exampleHead, exampleBody, ring, show}
 
 -- ---- what a row compares: a list of numbers
 
@@ -47,14 +46,14 @@ first : String → List ℕ
 first line = lineSays (judgeFirstLine show (octets line ++ octets "\r\n"))
 
 -- an event as its line of output has it: a code for the word, and its numbers
-told : Event Question Release LastWord → List ℕ
+unfoldable pub told : Event Question Release LastWord → List ℕ
 told (question q) = 1 ∷ length (q .message) ∷ []
 told (message (headAccepted status signed)) = 2 ∷ status ∷ []
 told (message (block offset bytes)) = 3 ∷ offset ∷ length bytes ∷ []
 told (last (closed total)) = 4 ∷ total ∷ []
 told (last (refused n at)) = 5 ∷ n ∷ []
 
-events : Log Question Release LastWord → List ℕ
+unfoldable pub events : Log Question Release LastWord → List ℕ
 events [] = []
 events (x ∷ log) = told (x .1) ++ events log
 
@@ -107,5 +106,5 @@ holdsAll [] = true
 holdsAll (c ∷ cs) = same (c .got) (c .due) && holdsAll cs
 
 pub marked-cases : holdsAll table ≡ true
-unfolding holdsAll table injectionFault sizeFault events told first lineSays isBase64 letterValue holdsThree holdsTwo holdsOne joinedLetters base64Bytes cut sections readingAt reading isWholeLine carriesSignature isChunkLine chunkSize lineSignature lineRules lineFault chained blockMessage all same lowered sameName among isDoubled namesOf hasField valueOf endsHead isWholeHead readHead headOf statusDigits injectionId injectionTime blockSize blockKey headKey listedNames headSignature signedOf signingString trustedBy textRules trustRules headFault endsWith lines beforeEmpty textLines trimmed fieldScan isFieldLine fieldOf areFieldLines fieldsOf statusScan isStatusLine statusOf numberFrom isDecimal isHexNumber decimalWithin decimal fits firstFrom found firstBroken injectionScan isInjection bsigsScan isBsigs sig0Scan isSig0 splitNames areFields isNameList signedFields signingLine signingText isWhole showOf headQuestion acceptHead judgeHead judgeFirstLine judgeDataEnd blockQuestion acceptBlock judgeNextLine judgeTrailer judge rules plainReading bigEndian padding padded number parsed schedule round rounds sums compressed hashed unparsed digest roundWords sha512 run past startsWith scan endsTrailer isWholeTrailer isTrailer
+unfolding holdsAll table injectionFault sizeFault events told first lineSays isBase64 letterValue holdsThree holdsTwo holdsOne joinedLetters base64Bytes cut sections readingAt reading isWholeLine carriesSignature isChunkLine chunkSize lineSignature lineRules lineFault chained blockMessage all same lowered sameName among isDoubled isProtected isProtectedDoubled namesOf hasField valueOf valuesOf endsHead isWholeHead readHead headOf statusDigits injectionId injectionTime blockSize blockKey headKey listedNames headSignature signedOf signingString trustedBy textRules trustRules headFault endsWith lines beforeEmpty textLines trimmed fieldScan isFieldLine fieldOf areFieldLines fieldsOf statusScan isStatusLine statusOf numberFrom isDecimal isHexNumber decimalWithin decimal fits firstFrom found firstBroken injectionScan isInjection bsigsScan isBsigs sig0Scan isSig0 splitNames areFields isNameList separated signedFields joinedFields signingLine signingText isWhole showOf headQuestion acceptHead judgeHead judgeFirstLine judgeDataEnd blockQuestion acceptBlock judgeNextLine judgeTrailer judge rules plainReading bigEndian padding padded number parsed schedule round rounds sums compressed hashed unparsed digest roundWords sha512 run past startsWith scan endsTrailer isWholeTrailer isTrailer
 marked-cases = refl

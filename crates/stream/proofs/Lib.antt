@@ -1,12 +1,14 @@
 pub mod Example
 pub mod Cases
 pub mod PlaceCases
+pub mod RepeatCases
 pub mod Truth
 pub mod RulesHold
 pub mod ScanSizes
 pub mod LineSizes
 pub mod NameSizes
 pub mod SigningSize
+pub mod SignedLaws
 pub mod MessageLaws
 pub mod Sound
 pub mod SoundJudge

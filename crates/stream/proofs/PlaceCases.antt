@@ -14,7 +14,7 @@ use Rattle.sections.specs.Reading.{go, tell, ask, stop}
 use Rattle.stream.specs.Blocks.{carriesSignature, isChunkLine, chunkSize, lineRules, lineFault}
 use Rattle.stream.specs.Bytes.{all, same, lowered, sameName}
 use Rattle.stream.specs.Events.{closed, refused}
-use Rattle.stream.specs.Fields.{among, isDoubled, namesOf, hasField, valueOf}
+use Rattle.stream.specs.Fields.{among, isProtected, isProtectedDoubled, namesOf, hasField, valueOf}
 use Rattle.stream.specs.Forms.{signatureForm, sizeForm, chunkForm, dataEndForm, nameForm, fieldForm, fieldLineForm, trailerForm, statusForm, statusLineForm, headForm}
 use Rattle.stream.specs.Head.{endsHead, headWith as readHead, headOf, statusDigits, textRules, trustRules, headFault}
 use Rattle.stream.specs.Lines.{crlf, endsWith, lines, beforeEmpty, textLines, trimmed, fieldScan, isFieldLine, fieldOf, areFieldLines, fieldsOf, statusScan, isStatusLine, statusOf}
@@ -122,10 +122,11 @@ rows =
     ∷ says "a bad trailer" (judgeTrailer 5 (line "A b" ++ crlf)) (6 ∷ 1 ∷ [])
     ∷ says "a bad head" (judgeHead [] (line "HTTP/1.1 20" ++ crlf)) (3 ∷ 11 ∷ [])
     ∷ says "a head with 65 fields" (judgeHead [] (withLines (fields 65 ++ crlf))) (3 ∷ 409 ∷ [])
-    ∷ says "a head with two fields of one name" (judgeHead [] (withLines (fields 2 ++ crlf))) (3 ∷ 31 ∷ [])
+    ∷ says "a head with two fields of one protected name" (judgeHead [] (withLines (line "x-ouinet-: b" ++ (line "X-Ouinet-: c" ++ crlf)))) (3 ∷ 47 ∷ [])
+    ∷ says "a head with two fields of another name, and no version" (judgeHead [] (withLines (fields 2 ++ crlf))) (4 ∷ 0 ∷ [])
     ∷ says "a head without a version" (judgeHead [] (withLines (fields 1 ++ crlf))) (4 ∷ 0 ∷ [])
     ∷ []
 
 pub places : holdsAll rows ≡ true
-unfolding rows holdsAll letterValue isBase64 holdsThree holdsTwo holdsOne stepForm reachForm reach reachFrom all same lowered sameName among isDoubled namesOf hasField valueOf signatureForm sizeForm chunkForm dataEndForm nameForm fieldForm fieldLineForm trailerForm statusForm statusLineForm headForm endsHead endsWith headPlace linePlace dataEndPlace trailerPlace endsTrailer isTrailer lines beforeEmpty textLines trimmed fieldScan isFieldLine fieldOf areFieldLines fieldsOf statusScan isStatusLine statusOf scan run past startsWith numberFrom isDecimal isHexNumber isChunkLine carriesSignature chunkSize lineRules lineFault firstBroken readHead headOf statusDigits injectionScan bsigsScan sig0Scan textRules trustRules headFault judgeHead judgeFirstLine judgeDataEnd judgeNextLine judgeTrailer
+unfolding rows holdsAll letterValue isBase64 holdsThree holdsTwo holdsOne stepForm reachForm reach reachFrom all same lowered sameName among isProtected isProtectedDoubled namesOf hasField valueOf signatureForm sizeForm chunkForm dataEndForm nameForm fieldForm fieldLineForm trailerForm statusForm statusLineForm headForm endsHead endsWith headPlace linePlace dataEndPlace trailerPlace endsTrailer isTrailer lines beforeEmpty textLines trimmed fieldScan isFieldLine fieldOf areFieldLines fieldsOf statusScan isStatusLine statusOf scan run past startsWith numberFrom isDecimal isHexNumber isChunkLine carriesSignature chunkSize lineRules lineFault firstBroken readHead headOf statusDigits injectionScan bsigsScan sig0Scan textRules trustRules headFault judgeHead judgeFirstLine judgeDataEnd judgeNextLine judgeTrailer
 places = refl

@@ -11,12 +11,12 @@ use lib.ListN.{length, drop, length-append}
 use Rattle.octets.specs.Octets.{octets}
 use Rattle.stream.specs.Bytes.{lowered}
 use Rattle.stream.specs.Fields.{among, isDoubled, valueOf}
-use Rattle.stream.specs.Head.{headOf, headWith, statusDigits, listedNames, signedOf, signingString, textRules, trustRules, headFault}
+use Rattle.stream.specs.Head.{headOf, headWith, statusDigits, listedNames, signingString, textRules, trustRules, headFault}
 use Rattle.stream.specs.Limits.{headLimit}
 use Rattle.stream.specs.Lines.{Field, areFieldLines, statusScan, isStatusLine, statusOf}
 use Rattle.stream.specs.Ring.{Ring}
 use Rattle.stream.specs.Signatures.{sig0Scan, isSig0, listedFields, areFields, isNameList, responseStatusName, createdName, sig0Name}
-use Rattle.stream.specs.Signing.{signingLine, signingText}
+use Rattle.stream.specs.Signing.{separated, joinedFields, signingLine, signingText}
 use Rattle.stream.specs.Template.{isLike, kept}
 use Rattle.stream.proofs.LineSizes.{fieldSize, field-lines-size, fields-size}
 use Rattle.stream.proofs.NameSizes.{names-size, value-size, signed-size}
@@ -31,7 +31,7 @@ unfolding signingLine
 line-size f = omega (arith, length-append (lowered (f .name)) (octets ": " ++ f .value), lowered-length (f .name))
 
 pub joined-size : (fs : List Field) → length (signingText fs) ≤ total fieldSize fs
-unfolding signingText
+unfolding signingText separated
 joined-size [] = omega arith
 joined-size (f ∷ []) = omega (arith, line-size f)
 joined-size (f ∷ g ∷ fs) = omega (arith, length-append (signingLine f) (10 ∷ signingText (g ∷ fs)), line-size f, joined-size (g ∷ fs))
@@ -59,11 +59,11 @@ not-doubled-past (suc k) n (m ∷ ms) h =
     not-doubled-past k n ms (rw (other, single))
 
 -- the fields that the signature lists: they are there, and differ from each other and from `X-Ouinet-Sig0`
-record Listed (fs : List Field) (ns : List (List ℕ)) : Type 0 where
-  present : areFields fs ns ≡ true
-  different : isDoubled (sig0Name ∷ ns) ≡ false
+pub record Listed (fs : List Field) (ns : List (List ℕ)) : Type 0 where
+  pub present : areFields fs ns ≡ true
+  pub different : isDoubled (sig0Name ∷ ns) ≡ false
 
-listed : (fs : List Field) (ns : List (List ℕ)) → isNameList fs ns ≡ true → Listed fs (listedFields ns)
+pub listed : (fs : List Field) (ns : List (List ℕ)) → isNameList fs ns ≡ true → Listed fs (listedFields ns)
 unfolding isNameList isDoubled
 listed fs ns h =
     let there : areFields fs (listedFields ns) ≡ true = search (left-holds, right-holds) depth 10 in
@@ -81,7 +81,7 @@ listed fs ns h =
 pub signing-fits′ : (l : List ℕ) → isStatusLine (headOf l .statusLine) ≡ true → areFieldLines (headOf l .fieldLines) ≡ true
     → isSig0 (headOf l .sig0) ≡ true → isNameList (headOf l .fields) (listedNames (headOf l)) ≡ true
     → length (signingString (headOf l)) ≤ length l
-unfolding headOf headWith statusDigits signedOf signingString
+unfolding headOf headWith statusDigits signingString
 signing-fits′ l status lines sig0 names =
     let fs : List Field = headOf l .fields in
     let ns : List (List ℕ) = listedFields (listedNames (headOf l)) in
@@ -91,7 +91,7 @@ signing-fits′ l status lines sig0 names =
       joined-size
           (record { name = responseStatusName; value = statusDigits (headOf l) }
           ∷ record { name = createdName; value = kept 1 (headOf l .sig0) }
-          ∷ signedOf (headOf l)),
+          ∷ joinedFields fs ns),
       status-size (headOf l .statusLine) status,
       signed-size fs ns (x .present),
       sig0-size (valueOf sig0Name fs) sig0,

@@ -9,14 +9,14 @@ use lib.ListN.{length, drop}
 use Rattle.octets.specs.Octets.{octets}
 use Rattle.base64.specs.Base64.{base64Bytes}
 use Rattle.stream.specs.Bytes.{same, sameName}
-use Rattle.stream.specs.Fields.{isDoubled, namesOf, hasField, valueOf}
+use Rattle.stream.specs.Fields.{isProtectedDoubled, namesOf, hasField, valueOf}
 use Rattle.stream.specs.Limits.{headLimit, fieldLimit}
 use Rattle.stream.specs.Lines.{crlf, endsWith, textLines, Field, areFieldLines, fieldsOf, isStatusLine, statusOf}
 use Rattle.stream.specs.Numbers.{decimalValue}
 use Rattle.stream.specs.Ring.{Ring, found, isFound}
 use Rattle.stream.specs.Rule.{Rule, rule, firstBroken}
 use Rattle.stream.specs.Signatures.{injectionScan, idText, timeText, isInjection, bsigsScan, keyText, blockSizeText, isBsigs, sig0Scan, createdText, namesText, headSignatureText, isSig0, splitNames, listedFields, isNameList, responseStatusName, createdName, versionName, uriName, injectionName, bsigsName, sig0Name}
-use Rattle.stream.specs.Signing.{signedFields, signingText}
+use Rattle.stream.specs.Signing.{signedFields, joinedFields, signingText}
 use Rattle.stream.specs.Template.{Scanned, nth}
 
 -- "at the first CR LF CR LF, or refused with 3 when 8,192 bytes have come without it"
@@ -80,7 +80,7 @@ listedNames h = splitNames (namesText (h .sig0))
 unfoldable pub headSignature : Head → List ℕ
 headSignature h = base64Bytes 64 (headSignatureText (h .sig0))
 
--- the fields whose values are handed out: "for fields in the signed list only"
+-- the fields whose values are handed out: "for fields in the signed list only", and a repeated one as often as it is there
 unfoldable pub signedOf : Head → List Field
 signedOf h = signedFields (h .fields) (listedFields (listedNames h))
 
@@ -90,7 +90,7 @@ signingString h =
     signingText
     (record { name = responseStatusName; value = statusDigits h }
     ∷ record { name = createdName; value = createdText (h .sig0) }
-    ∷ signedOf h)
+    ∷ joinedFields (h .fields) (listedFields (listedNames h)))
 
 -- the number of the record that trusts the key of `X-Ouinet-Sig0` at the time `ts`
 unfoldable pub trustedBy : Ring → Head → Option ℕ
@@ -117,7 +117,7 @@ textRules l h =
     ∷ rule 3 (isStatusLine (h .statusLine))
     ∷ rule 3 (areFieldLines (h .fieldLines))
     ∷ rule 3 (leb (length (h .fields)) fieldLimit)
-    ∷ rule 3 (not (isDoubled (namesOf (h .fields))))
+    ∷ rule 3 (not (isProtectedDoubled (namesOf (h .fields))))
     ∷ rule 4 (hasField versionName (h .fields))
     ∷ rule 5 (same (valueOf versionName (h .fields)) (octets "4"))
     ∷ rule 4 (isStatus (statusDigits h))

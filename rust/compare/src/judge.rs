@@ -22,6 +22,11 @@ pub fn has_place(outcome: &Outcome) -> bool {
     refused && words.next() == Some("at") && words.next().is_some_and(|place| place.parse::<u64>().is_ok())
 }
 
+/// Whether the head was accepted.
+pub fn accepts_head(outcome: &Outcome) -> bool {
+    outcome.output.split(|&byte| byte == b'\n').any(|line| line.starts_with(b"head "))
+}
+
 /// A program without an exit status of its own ends with 0 whatever it was given.
 fn due_status(case: &Case, has_status: bool) -> i32 {
     match case.expected {

@@ -1,15 +1,17 @@
-//! `compare PROGRAM_A PROGRAM_B --seed S --count N [--groups LIST] [--least-places P] [--keep DIR] [--no-status-in-a]`:
-//! makes cases with the generator, runs both readers on each, and compares standard output and
+//! `compare PROGRAM_A PROGRAM_B --seed S --count N [--groups LIST] [--least-places P] [--least-repeated R] [--keep DIR]
+//! [--no-status-in-a]`: makes cases with the generator, runs both readers on each, and compares standard output and
 //! released bytes with each other, and these and the exit status with what the generator expects.
 //! Both are given `--where`, so that a refusal's line has the place of a wrong text. It counts the
-//! cases in which both refused a text at the same place; fewer than P are a failure. With the last option A is a program that has no exit status of its own: its complaints about a
-//! malformed file are held to the same rules, and it must end with 0. Cases that fail are kept in a
-//! folder each, under DIR or else under `compare-kept-S` in the folder for temporary files.
+//! cases in which both refused a text at the same place, and those in which both accepted a head with a
+//! name in several lines; fewer than P or R are a failure. With the last option A is a program that has
+//! no exit status of its own: its complaints about a malformed file are held to the same rules, and it
+//! must end with 0. Cases that fail are kept in a folder each, under DIR or else under
+//! `compare-kept-S` in the folder for temporary files.
 
 mod judge;
 mod run;
 
-use judge::{complaints, has_place};
+use judge::{accepts_head, complaints, has_place};
 use run::{Outcome, Workshop};
 use std::fs;
 use std::path::{Path, PathBuf};
@@ -18,8 +20,8 @@ use streams::case::Case;
 use streams::sequence::{self, Group, Sequence};
 
 const USAGE: &str =
-    "usage: compare PROGRAM_A PROGRAM_B --seed S --count N [--groups LIST] [--least-places P] [--keep DIR] \
-    [--no-status-in-a]";
+    "usage: compare PROGRAM_A PROGRAM_B --seed S --count N [--groups LIST] [--least-places P] [--least-repeated R] \
+    [--keep DIR] [--no-status-in-a]";
 
 fn main() -> ExitCode {
     let words: Vec<String> = std::env::args().skip(1).collect();
@@ -38,17 +40,49 @@ struct Settings {
     seed: u64,
     count: usize,
     groups: Vec<Group>,
-    /// So many refusals with a place must be among what is compared.
-    least_places: usize,
+    /// So many refusals with a place must be among what is compared, and so many accepted heads with a repeated field.
+    least: Counts,
     keep: PathBuf,
     /// Whether each program tells a malformed file by its exit status.
     have_status: [bool; 2],
 }
 
+/// Of the cases that passed, those of two kinds.
+#[derive(Default)]
+struct Counts {
+    /// Both refused a text at the same place.
+    places: usize,
+    /// Both accepted a head in which a name has several lines.
+    repeated: usize,
+}
+
+impl Counts {
+    fn add(&mut self, case: &Case, outcomes: &[Outcome; 2]) {
+        self.places += usize::from(outcomes.iter().all(has_place));
+        self.repeated += usize::from(outcomes.iter().all(accepts_head) && case.has_repeated_field());
+    }
+
+    /// Tells both counts, and gives how many of them are too low.
+    fn tell(&self, least: &Counts) -> usize {
+        let kinds = [
+            ("refusals with a place", self.places, least.places),
+            ("accepted heads with a repeated field", self.repeated, least.repeated),
+        ];
+        for (what, count, least) in kinds {
+            println!("{count} {what} were compared");
+            if count < least {
+                println!("these are too few: there must be {least} of them");
+            }
+        }
+        kinds.iter().filter(|(_, count, least)| count < least).count()
+    }
+}
+
 impl Settings {
     fn parse(words: &[String]) -> Result<Self, String> {
         let (mut programs, mut seed, mut count) = (Vec::new(), None, None);
-        let (mut groups, mut least_places, mut keep, mut have_status) = (sequence::all_groups(), 0, None, [true; 2]);
+        let (mut groups, mut least) = (sequence::all_groups(), Counts::default());
+        let (mut keep, mut have_status) = (None, [true; 2]);
         let mut words = words.iter();
         while let Some(word) = words.next() {
             let mut value = || words.next().ok_or_else(|| format!("{word} needs a value"));
@@ -56,7 +90,8 @@ impl Settings {
                 "--seed" => seed = Some(number(word, value()?)?),
                 "--count" => count = Some(number(word, value()?)? as usize),
                 "--groups" => groups = sequence::parse_groups(value()?)?,
-                "--least-places" => least_places = number(word, value()?)? as usize,
+                "--least-places" => least.places = number(word, value()?)? as usize,
+                "--least-repeated" => least.repeated = number(word, value()?)? as usize,
                 "--keep" => keep = Some(PathBuf::from(value()?)),
                 "--no-status-in-a" => have_status[0] = false,
                 other if other.starts_with("--") => return Err(format!("no option {other}\n{USAGE}")),
@@ -70,7 +105,7 @@ impl Settings {
             seed,
             count: count.ok_or_else(|| format!("--count is missing\n{USAGE}"))?,
             groups,
-            least_places,
+            least,
             keep: keep.unwrap_or_else(|| std::env::temp_dir().join(format!("compare-kept-{seed}"))),
             have_status,
         })
@@ -90,13 +125,13 @@ fn program(path: &str) -> Result<PathBuf, String> {
 fn compare(settings: &Settings) -> Result<usize, String> {
     println!("seed {}", settings.seed);
     let workshop = Workshop::new()?;
-    let (mut passed, mut failed, mut places) = (0, 0, 0);
+    let (mut passed, mut failed, mut counts) = (0, 0, Counts::default());
     for (number, case) in Sequence::new(settings.seed, &settings.groups).take(settings.count).enumerate() {
         let outcomes = workshop.run(&case, &settings.programs)?;
         let found = complaints(&case, &outcomes, settings.have_status);
         if found.is_empty() {
             passed += 1;
-            places += usize::from(outcomes.iter().all(has_place));
+            counts.add(&case, &outcomes);
             continue;
         }
         failed += 1;
@@ -107,11 +142,7 @@ fn compare(settings: &Settings) -> Result<usize, String> {
             println!("  {line}");
         }
     }
-    println!("{places} refusals with a place were compared");
-    if places < settings.least_places {
-        failed += 1;
-        println!("these are too few: there must be {} of them", settings.least_places);
-    }
+    failed += counts.tell(&settings.least);
     println!("{passed} passed, {failed} failed");
     Ok(failed)
 }

@@ -109,7 +109,7 @@ fn step(buffers: &mut Buffers, material: &Material, rng: &mut Rng) -> Result<(),
     let word = make(buffers, &call, &ring, &lengths);
     check_word(buffers, &before, &call, word, due)?;
     settle(buffers)?;
-    check_parts(buffers)?;
+    check_parts(buffers, material, rng)?;
     make(&mut again, &call, &ring, &lengths);
     settle(&mut again)?;
     same_buffers(buffers, &again)
@@ -169,14 +169,18 @@ fn settle(buffers: &mut Buffers) -> Result<(), String> {
     buffers.check()
 }
 
-/// The handed-out parts lie within the named first parts of their buffers.
-fn check_parts(buffers: &Buffers) -> Result<(), String> {
+/// The handed-out parts lie within the named first parts of their buffers, and a value has some lines, but not too many.
+fn check_parts(buffers: &Buffers, material: &Material, rng: &mut Rng) -> Result<(), String> {
     let state = buffers.state.get();
     let block = raw::block(state, buffers.block.get());
-    let mut value = [0; raw::HEAD_SIZE];
-    let length = raw::value(state, buffers.head.get(), b"X-Ouinet-URI", &mut value);
-    if block > raw::BLOCK_SIZE || length > raw::HEAD_SIZE {
-        return Err(format!("a block of {block} bytes, a value of {length}"));
+    for name in [b"X-Ouinet-URI".to_vec(), material.any_name(rng)] {
+        let mut value = [0; raw::HEAD_SIZE];
+        let length = raw::value(state, buffers.head.get(), &name, &mut value);
+        let count = raw::value_count(state, buffers.head.get(), &name);
+        let is_there = length == 0 || count > 0;
+        if block > raw::BLOCK_SIZE || length > raw::HEAD_SIZE || count > raw::FIELD_LIMIT || !is_there {
+            return Err(format!("a block of {block} bytes, a value of {length} in {count} lines"));
+        }
     }
     Ok(())
 }

@@ -1,6 +1,6 @@
 //! Random lists of calls through the proved library and through the second reader's reading of call lists, compared after
 //! every call: the word with all it carries, the count taken, every byte of every lent buffer and of the marks around it,
-//! and the handed-out parts. A list depends only on the seed and its own number.
+//! the handed-out parts, and how many lines a field has. A list depends only on the seed and its own number.
 //!
 //! * `material`: the streams that are fed, honest and broken, and their rings;
 //! * `buffers`: lent buffers with marks around them, and what must lie in them;

@@ -15,9 +15,18 @@ use streams::rng::Rng;
 const MOST_PIECE: [usize; 8] = [1, 2, 5, 20, 100, 600, 5000, usize::MAX];
 /// A stream of more bytes is read in few calls, since the second reader starts afresh at each.
 const LONG: usize = 20_000;
-/// Names that are asked for beside those that the head lists.
-const NAMES: [&[u8]; 7] =
-    [b"X-Ouinet-URI", b"x-ouinet-sig0", b"Transfer-Encoding", b"(created)", b"date", b"", b"X-Ouinet-Version "];
+/// Names that are asked for beside those that the head has and lists.
+const NAMES: [&[u8]; 9] = [
+    b"X-Ouinet-URI",
+    b"x-ouinet-sig0",
+    b"Transfer-Encoding",
+    b"(created)",
+    b"(response-status)",
+    b"date",
+    b"Vary",
+    b"",
+    b"X-Ouinet-Version ",
+];
 
 /// A ring as the library is lent it, and as the second reader is told.
 struct LentRing {
@@ -233,39 +242,52 @@ impl<'a> List<'a> {
         same("the block of a short state", &raw::block(&state[..short], block), &0)
     }
 
-    /// The value of a field, in a buffer that fits it or does not.
+    /// The value of a field and the count of its lines; none from buffers that are too short.
     fn check_value(&mut self, tally: &mut Tally) -> Result<(), String> {
         if !self.rng.one_in(3) {
             return Ok(());
         }
-        let mut name = self.rng.pick(&NAMES).to_vec();
-        if let Some(head) = self.calls.reading().accepted {
-            if self.rng.one_in(2) {
-                name = self.rng.pick(&head.signed).0.clone();
-            }
-        }
-        if self.rng.one_in(2) {
-            name.make_ascii_uppercase();
-        }
+        let name = self.any_name();
         let head = match self.rng.below(12) {
             0 => too_short(raw::HEAD_SIZE, self.rng),
             _ => self.buffers.head.len(),
         };
         let due = self.calls.value(head, &name).to_vec();
+        let count = self.calls.value_count(head, &name);
         tally.values += u64::from(!due.is_empty());
+        tally.repeated += u64::from(count > 1);
         let room = match self.rng.below(3) {
             0 => self.rng.below(due.len() + 1),
             1 => due.len(),
             _ => due.len() + self.rng.below(40),
         };
         let mut value = Guarded::new(room, self.rng);
-        let state = self.buffers.state.get();
-        let length = raw::value(state, &self.buffers.head.get()[..head], &name, value.lend(room));
+        let (state, head) = (self.buffers.state.get(), &self.buffers.head.get()[..head]);
+        let length = raw::value(state, head, &name, value.lend(room));
         same("a value's length", &length, &due.len())?;
         if due.len() <= room {
             value.expect(&due);
         }
-        value.check("value")
+        value.check("value")?;
+        same("the count of a field's lines", &raw::value_count(state, head, &name), &count)?;
+        let short = too_short(raw::STATE_SIZE, self.rng);
+        same("the count of a short state", &raw::value_count(&state[..short], head, &name), &0)
+    }
+
+    /// A name in any case: one of the table's, of the stream's first lines whether they have come or not, or of the signed list.
+    fn any_name(&mut self) -> Vec<u8> {
+        let accepted = self.calls.reading().accepted;
+        let mut name = match (self.rng.below(4), accepted) {
+            (0, _) => self.rng.pick(&NAMES).to_vec(),
+            (1 | 2, Some(head)) => self.rng.pick(&head.signed).name.clone(),
+            _ => self.material.any_name(self.rng),
+        };
+        match self.rng.below(3) {
+            0 => name.make_ascii_uppercase(),
+            1 => name.make_ascii_lowercase(),
+            _ => (),
+        }
+        name
     }
 }
 

@@ -5,8 +5,10 @@ use second::files::parse_ring;
 use second::ring::Record;
 use streams::case::Case;
 use streams::damage;
+use streams::head;
 use streams::plan::{ring_text, Built};
 use streams::random;
+use streams::repeated;
 use streams::rng::Rng;
 use streams::rules::{self, Rule};
 use streams::sequence::{Group, Sequence};
@@ -32,6 +34,12 @@ pub fn ring_bytes(ring: &[Record]) -> Vec<u8> {
 }
 
 impl Material {
+    /// What stands before the colon of some line of the head.
+    pub fn any_name(&self, rng: &mut Rng) -> Vec<u8> {
+        let names: Vec<&[u8]> = head::line_names(&self.stream).collect();
+        rng.pick(&names).to_vec()
+    }
+
     fn of_case(case: Case) -> Self {
         Material { label: case.label, stream: case.stream, ring: parse_ring(&case.ring).unwrap_or_default() }
     }
@@ -44,7 +52,7 @@ impl Material {
 
 /// What materials are drawn from.
 pub struct Pool {
-    /// The example, each rule broken on it, and both sides of each limit.
+    /// The example, each rule broken on it, both sides of each limit, and repeated fields.
     fixed: Vec<Material>,
     small: Vec<Built>,
     hits: Vec<damage::Hit>,
@@ -53,7 +61,7 @@ pub struct Pool {
 
 impl Pool {
     pub fn new() -> Self {
-        let groups = [Group::Example, Group::Rules, Group::Bounds];
+        let groups = [Group::Example, Group::Rules, Group::Bounds, Group::Repeated];
         let small = damage::streams();
         Pool {
             fixed: Sequence::new(1, &groups).map(Material::of_case).collect(),
@@ -71,6 +79,7 @@ impl Pool {
             5 => self.broken(rng),
             6 => Material::of_case(damage::several(&random::full_plan(rng).build(), rng)),
             7 => Material::of_case(wrong_text::case(rng)),
+            8 => Material::of_case(repeated::case(rng)),
             _ => Material::of_built("a random stream", &random::plan(rng).build()),
         }
     }

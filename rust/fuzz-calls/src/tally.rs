@@ -18,6 +18,8 @@ pub struct Tally {
     pub forged: u64,
     /// Values that were handed out and not empty.
     pub values: u64,
+    /// Counts of a field's lines that were above 1.
+    pub repeated: u64,
 }
 
 impl Tally {
@@ -27,6 +29,7 @@ impl Tally {
         self.too_short += other.too_short;
         self.forged += other.forged;
         self.values += other.values;
+        self.repeated += other.repeated;
         self.places += other.places;
         for (mine, theirs) in self.words.iter_mut().zip(other.words) {
             *mine += theirs;
@@ -47,6 +50,7 @@ impl fmt::Display for Tally {
             write!(out, " {number}: {count}{}", if number < 12 { "," } else { "" })?;
         }
         writeln!(out, "\nrefusals with a place {}", self.places)?;
-        write!(out, "buffers too short for any answer {}, values handed out {}", self.too_short, self.values)
+        write!(out, "buffers too short for any answer {}, values handed out {}, ", self.too_short, self.values)?;
+        write!(out, "counts of a repeated field {}", self.repeated)
     }
 }

@@ -23,6 +23,7 @@ fn some_lists() {
     let tally = run(0, 2000);
     assert!(tally.words.iter().all(|&count| count > 0), "a word never came");
     assert!(tally.places >= 200, "only {} refusals had a place", tally.places);
+    assert!(tally.repeated >= 100, "only {} counts were above 1", tally.repeated);
 }
 
 #[test]

@@ -17,7 +17,7 @@ pub struct Diagnosis {
 }
 
 /// The diagnosis of a section with its bytes, refused at this place. A place inside the section is where its text goes wrong. One
-/// at its end has another cause, which the bytes tell: it has no end, or else too many fields, or two of one name.
+/// at its end has another cause, which the bytes tell: it has no end, or else too many fields, or one twice that may come once.
 pub fn of(section: &Section, bytes: &[u8], at: u64) -> Diagnosis {
     match usize::try_from(at) {
         Ok(at) if at < bytes.len() => wrong_text(section, bytes, at),
@@ -63,20 +63,32 @@ fn wrong_fields(head: &[u8]) -> Diagnosis {
         return Diagnosis { words, shown: Vec::new() };
     }
     let Some((first, second)) = doubled(head, fields) else {
-        return Diagnosis { words: "the head has too many fields, or one twice".to_string(), shown: Vec::new() };
+        let words = "the head has too many fields, or one twice that may come only once".to_string();
+        return Diagnosis { words, shown: Vec::new() };
     };
-    let words = format!("the head has one field twice, in lines {} and {}", first.number, second.number);
     let line = &head[second.range.clone()];
-    Diagnosis { words, shown: excerpt::marked(line, 0..name(line).len()).to_vec() }
+    let name = name(line);
+    let shown_name = excerpt::short(name);
+    let words = format!(
+        "the head has {shown_name} twice, in lines {} and {}, and may have it only once",
+        first.number, second.number
+    );
+    Diagnosis { words, shown: excerpt::marked(line, 0..name.len()).to_vec() }
 }
 
-/// The first field whose name an earlier one has, and that one before it.
+/// The first field that an earlier one forbids, and that one before it: they have one name, and it may come only once.
 fn doubled<'a>(head: &[u8], fields: &'a [Line]) -> Option<(&'a Line, &'a Line)> {
     let name = |line: &Line| name(&head[line.range.clone()]);
-    fields.iter().enumerate().find_map(|(number, second)| {
+    fields.iter().enumerate().filter(|(_, second)| is_single(name(second))).find_map(|(number, second)| {
         let first = fields[..number].iter().find(|first| name(first).eq_ignore_ascii_case(name(second)))?;
         Some((first, second))
     })
+}
+
+/// Whether a name may come only once; all others may be repeated.
+fn is_single(name: &[u8]) -> bool {
+    let name = name.to_ascii_lowercase();
+    name.starts_with(b"x-ouinet-") || name == b"content-length" || name == b"transfer-encoding"
 }
 
 /// What stands before a line's colon.
@@ -186,8 +198,33 @@ mod tests {
         let head = format!("HTTP/1.1 200 OK\r\n{fields}F2: y\r\n\r\n");
         let whole = head.len() as u64;
         check(SectionKind::Head, 0, head.as_bytes(), whole, "the head has 67 fields, and 64 are the most", &[]);
-        let head = b"HTTP/1.1 200 OK\r\nVary: x\r\nDate: now\r\nvARY: y\r\nDate:\r\n\r\n";
-        let words = "the head has one field twice, in lines 2 and 4";
-        check(SectionKind::Head, 0, head, head.len() as u64, words, &[r"    vARY: y\r\n", "    ^^^^"]);
+        let once = |lines: &str, words: &str, shown: &[&str]| {
+            let head = format!("HTTP/1.1 200 OK\r\n{lines}\r\n");
+            check(SectionKind::Head, 0, head.as_bytes(), head.len() as u64, words, shown);
+        };
+        once(
+            "Vary: x\r\nX-Ouinet-A: 1\r\nvARY: y\r\nDate:\r\nx-oUINET-a:\r\nX-Ouinet-B:\r\n",
+            "the head has x-oUINET-a twice, in lines 3 and 6, and may have it only once",
+            &[r"    x-oUINET-a:\r\n", "    ^^^^^^^^^^"],
+        );
+        once(
+            "X-Ouinet:\r\nX-Ouinet:\r\ncontent-length: 5\r\nContent-Length: 5\r\nContent-Length: 6\r\n",
+            "the head has Content-Length twice, in lines 4 and 5, and may have it only once",
+            &[r"    Content-Length: 5\r\n", "    ^^^^^^^^^^^^^^"],
+        );
+        once(
+            "Transfer-Encoding-A:\r\nTransfer-Encoding:\r\nTransfer-Encoding-A:\r\nTransfer-Encoding: chunked\r\n",
+            "the head has Transfer-Encoding twice, in lines 3 and 5, and may have it only once",
+            &[r"    Transfer-Encoding: chunked\r\n", "    ^^^^^^^^^^^^^^^^^"],
+        );
+        let long = format!("x-ouinet-{}", "n".repeat(100));
+        once(
+            &format!("{long}:\r\n{long}:\r\n"),
+            &format!("the head has {}... twice, in lines 2 and 3, and may have it only once", &long[..40]),
+            &[&format!("    {}...", &long[..72]), &format!("    {}", "^".repeat(72))],
+        );
+        // No refusal of ours is about these
+        let words = "the head has too many fields, or one twice that may come only once";
+        once("Vary: x\r\nVary: y\r\n", words, &[]);
     }
 }

@@ -6,6 +6,8 @@ use std::ops::Range;
 const MOST_COLUMNS: usize = 72;
 /// So many of them stand before a mark.
 const BEFORE_MARK: usize = 30;
+/// So many bytes of a name are shown within a sentence.
+const MOST_NAME: usize = 40;
 const INDENT: &str = "    ";
 /// What stands where something is left out.
 const CUT: &str = "...";
@@ -40,6 +42,13 @@ pub fn marked(line: &[u8], mark: Range<usize>) -> [String; 2] {
 pub fn beginning(text: &[u8]) -> String {
     let [line, _] = marked(text, 0..1.min(text.len()));
     line
+}
+
+/// A name within a sentence, cut if it is long.
+pub fn short(name: &[u8]) -> String {
+    let shown: String = name.iter().take(MOST_NAME).map(|&byte| escaped(byte)).collect();
+    let after = if name.len() > MOST_NAME { CUT } else { "" };
+    format!("{shown}{after}")
 }
 
 fn width(shown: &[String]) -> usize {

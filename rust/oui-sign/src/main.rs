@@ -2,6 +2,7 @@
 
 #![forbid(unsafe_code)]
 
+mod header;
 mod key;
 mod show;
 
@@ -20,14 +21,23 @@ usage:
   oui-sign ring KEYFILE [--first SECOND] [--last SECOND]
       prints that line for a key that is there
   oui-sign sign KEYFILE [FILE] [-o STREAM] [--block-size N] [--uri URI] [--type TYPE] [--id ID] [--ts SECOND]
+                [--header 'NAME: VALUE']..
       writes FILE as a signed stream (version 4), from standard input and to standard output unless told otherwise
 
 A line of a ring trusts the key from the first to the last second; these are 0 and 4102444800 (the year 2100) unless told
 otherwise. A block has 65536 bytes, the time is now, and the id is drawn at random unless told otherwise.
+Each --header is a further field of the head, and is signed; a name may come several times. Content-Type is set by --type.
+A name that begins X-Ouinet- or is Content-Length or Transfer-Encoding cannot be given.
 KEYFILE is secret: whoever has it signs in your name.";
 
 fn main() -> ExitCode {
-    let words: Vec<String> = std::env::args().skip(1).collect();
+    let words: Vec<String> = match std::env::args_os().skip(1).map(|word| word.into_string()).collect() {
+        Ok(words) => words,
+        Err(word) => {
+            eprintln!("oui-sign: {}: no UTF-8", word.to_string_lossy());
+            return ExitCode::from(2);
+        }
+    };
     if words.iter().any(|word| word == "--help" || word == "-h") {
         println!("{USAGE}");
         return ExitCode::SUCCESS;

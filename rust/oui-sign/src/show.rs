@@ -1,7 +1,7 @@
 //! What a stream says about itself, and how it is written from a source of bytes.
 
+use crate::header::{self, check_value};
 use second::head;
-use second::text::is_value_byte;
 use sodium::Signer;
 use std::io::{self, Read, Write};
 use std::time::{SystemTime, UNIX_EPOCH};
@@ -23,6 +23,8 @@ pub struct Show {
     content_type: String,
     id: String,
     ts: u64,
+    /// Further fields, all of them signed.
+    headers: Vec<Field>,
 }
 
 impl Show {
@@ -33,6 +35,7 @@ impl Show {
             content_type: options.named("--type").unwrap_or_else(|| "application/octet-stream".to_string()),
             id: options.named("--id").unwrap_or_else(any_id),
             ts: options.number("--ts")?.unwrap_or_else(now),
+            headers: options.all_named("--header").iter().map(|word| header::parse(word)).collect::<Result<_, _>>()?,
         };
         show.check()?;
         Ok(show)
@@ -84,22 +87,29 @@ impl Show {
             ring: Vec::new(),
         };
         plan.set_injection(self.id.as_bytes(), &ts);
-        let length = plan.build().head.bytes().len();
-        if length > head::LIMIT {
-            return Err(format!("the head has {length} bytes, and {} are the most", head::LIMIT));
+        for field in &self.headers {
+            plan.fields.push(field.clone());
+            if !plan.listed.iter().any(|name| name.eq_ignore_ascii_case(&field.name)) {
+                plan.listed.push(field.name.to_ascii_lowercase());
+            }
         }
+        check_sizes(&plan)?;
         Ok(plan)
     }
 }
 
-/// Whether a text may stand in a field; if not, the error says where it goes wrong.
-fn check_value(name: &str, value: &str) -> Result<(), String> {
-    if let Some(place) = value.bytes().position(|byte| !is_value_byte(byte)) {
-        let byte = value.as_bytes()[place].escape_ascii();
-        return Err(format!("{name}: {byte} at offset {place} may not stand in a field's value"));
-    }
-    if value.trim_matches([' ', '\t']).len() != value.len() {
-        return Err(format!("{name}: a field's value has no blanks at its ends"));
+/// Whether the head keeps within its limits.
+fn check_sizes(plan: &Plan) -> Result<(), String> {
+    let length = plan.build().head.bytes().len();
+    // The list has the two names in brackets, too
+    for (what, count, most) in [
+        ("fields", plan.fields.len(), head::MOST_FIELDS),
+        ("signed names", plan.listed.len() + 2, head::MOST_LISTED),
+        ("bytes", length, head::LIMIT),
+    ] {
+        if count > most {
+            return Err(format!("the head has {count} {what}, and {most} are the most"));
+        }
     }
     Ok(())
 }

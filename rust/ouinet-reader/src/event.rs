@@ -20,7 +20,8 @@ pub struct Question<'r> {
 pub enum Event<'r> {
     /// The reader waits for an [`answer`](crate::Reader::answer).
     Question(Question<'r>),
-    /// The head's signature was good. From now on [`Reader::value`](crate::Reader::value) gives the signed fields.
+    /// The head's signature was good. From now on [`Reader::value`](crate::Reader::value) gives the signed fields, and
+    /// [`Reader::value_count`](crate::Reader::value_count) how often each is there.
     HeadAccepted {
         /// The response's status: 200, 301, 302 or 307.
         status: u16,

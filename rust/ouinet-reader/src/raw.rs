@@ -2,9 +2,9 @@
 //! is here. Most callers want [`Reader`](crate::Reader); this module is for callers with buffers of their own, and for tests.
 //!
 //! Every function is safe for any bytes and any lengths. With every state, a forged one too, a length in a result and a part
-//! that is handed out are at most the sizes below and at most the buffer's length, and bytes of head, block and question
-//! beyond these sizes are neither read nor written. A call whose state or result is too short changes nothing and returns
-//! [`SHORT`]. Numbers in the buffers have eight bytes, lowest byte first.
+//! that is handed out are at most the sizes below and at most the buffer's length, a count of lines is at most
+//! [`FIELD_LIMIT`], and bytes of head, block and question beyond these sizes are neither read nor written. A call whose state
+//! or result is too short changes nothing and returns [`SHORT`]. Numbers in the buffers have eight bytes, lowest byte first.
 
 #![allow(unsafe_code)]
 
@@ -30,6 +30,8 @@ pub const QUESTION_SIZE: usize = 8192;
 pub const RECORD_SIZE: usize = 48;
 /// The most records in a ring.
 pub const RING_LIMIT: usize = 16;
+/// The most field lines of an accepted head.
+pub const FIELD_LIMIT: usize = 64;
 /// The least length of a result: word, taken, two numbers, signature.
 pub const RESULT_SIZE: usize = 96;
 
@@ -101,6 +103,14 @@ extern "C" {
         name_len: usize,
         value: *mut u8,
         value_len: usize,
+    ) -> usize;
+    fn ouinet_reader_value_count(
+        state: *const u8,
+        state_len: usize,
+        head: *const u8,
+        head_len: usize,
+        name: *const u8,
+        name_len: usize,
     ) -> usize;
 }
 
@@ -193,7 +203,8 @@ pub fn block(state: &[u8], block: &[u8]) -> usize {
     unsafe { ouinet_reader_block(state.as_ptr(), state.len(), block.as_ptr(), block.len()) }
 }
 
-/// The length of a signed field's value, which is copied to the front of `value` where it fits whole; 0 where there is none.
+/// The length of a signed field's value, which is copied to the front of `value` where it fits whole; 0 where there is none. Where
+/// the head has several lines of that name, it is the first line's.
 pub fn value(state: &[u8], head: &[u8], name: &[u8], value: &mut [u8]) -> usize {
     // SAFETY: each pointer and the length after it are those of a slice. The library writes to the last one alone, and
     // within its length; its borrow is exclusive.
@@ -208,6 +219,14 @@ pub fn value(state: &[u8], head: &[u8], name: &[u8], value: &mut [u8]) -> usize 
             value.as_mut_ptr(),
             value.len(),
         )
+    }
+}
+
+/// How many lines of the accepted head have a signed field's name, at most [`FIELD_LIMIT`]; 0 where no value is handed out.
+pub fn value_count(state: &[u8], head: &[u8], name: &[u8]) -> usize {
+    // SAFETY: each pointer and the length after it are those of a slice, which the library only reads.
+    unsafe {
+        ouinet_reader_value_count(state.as_ptr(), state.len(), head.as_ptr(), head.len(), name.as_ptr(), name.len())
     }
 }
 

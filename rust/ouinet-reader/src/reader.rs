@@ -92,12 +92,20 @@ impl Reader {
     }
 
     /// The value of a field of the accepted head, whatever the case of its name. It is empty before the head is accepted
-    /// and for a field that is not signed.
+    /// and for a field that is not signed. Where the head has several lines of that name, it is the first line's; the signature
+    /// covers them all.
     pub fn value(&self, name: impl AsRef<[u8]>) -> Vec<u8> {
         let mut value = vec![0; raw::HEAD_SIZE];
         let length = raw::value(&self.state, &self.head, name.as_ref(), &mut value);
         value.truncate(length);
         value
+    }
+
+    /// How many lines of the accepted head have that name, whatever its case: 1 for most signed fields, more for one that is
+    /// repeated, such as `Vary` or `Via`. It is 0 where [`value`](Reader::value) has nothing to hand out: before the head is
+    /// accepted, and for a field that is not signed. Items with commas between are not counted, and an empty value is a line too.
+    pub fn value_count(&self, name: impl AsRef<[u8]>) -> usize {
+        raw::value_count(&self.state, &self.head, name.as_ref())
     }
 
     /// How many bytes of the stream were taken, in all feeds.

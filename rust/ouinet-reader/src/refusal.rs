@@ -8,11 +8,13 @@ use std::fmt;
 /// Refusals 3 and 6 say where: where the text of a section is at fault, `at` is the length of the longest beginning of
 /// the section that some good text has too, however long as a whole and with its line ends, so the byte at that place is
 /// the first one that cannot stand there. Where the cause is another one, `at` is the length of the section as far as
-/// it was taken, the deciding byte included: no end within the limit, too many fields, or two of one name. It is counted from the section's first byte;
-/// [`Reader::refused_section`](crate::Reader::refused_section) tells where in the stream that is.
+/// it was taken, the deciding byte included: no end within the limit, too many fields, or a field twice that may come only once.
+/// It is counted from the section's first byte; [`Reader::refused_section`](crate::Reader::refused_section) tells where in the
+/// stream that is.
 #[derive(Debug, Clone, Copy, PartialEq, Eq, Hash)]
 pub enum Refusal {
-    /// 3: the head's text is wrong or too long, it has over 64 fields, or a name doubled.
+    /// 3: the head's text is wrong or too long, it has over 64 field lines, or a field twice that may come only once: one whose
+    /// name begins `X-Ouinet-` or is `Content-Length` or `Transfer-Encoding`, in any case. All others may be repeated.
     BadHead {
         /// Where its text goes wrong, or the length taken.
         at: u64,
@@ -86,7 +88,7 @@ impl Refusal {
     pub fn meaning(self) -> &'static str {
         match self {
             Refusal::BadHead { .. } => {
-                "the head is not well formed: wrong text, no end within 8,192 bytes, over 64 fields, or a field that comes twice"
+                "the head is not well formed: wrong text, no end within 8,192 bytes, over 64 fields, or a field twice that may come only once"
             }
             Refusal::HeadRule => "the head breaks a rule of signed streams: a field is missing or has a wrong value",
             Refusal::BadVersion => "the stream is of another version than 4",

@@ -124,13 +124,14 @@ fn questions_carry_what_a_verifier_needs() {
 fn values_of_the_accepted_head() {
     let mut reader = Reader::new(ring());
     reader.feed(STREAM).expect("in turn");
-    assert_eq!(reader.value("Content-Type"), b"");
+    assert_eq!((reader.value("Content-Type"), reader.value_count("Content-Type")), (b"".to_vec(), 0));
     assert_eq!(reader.answer(true), Ok(Event::HeadAccepted { status: 200 }));
-    assert_eq!(reader.value("Content-Type"), b"text/plain");
+    assert_eq!((reader.value("Content-Type"), reader.value_count("Content-Type")), (b"text/plain".to_vec(), 1));
     assert_eq!(reader.value(b"X-OUINET-URI"), b"https://example.com/hello");
+    assert_eq!(reader.value_count(b"X-OUINET-URI"), 1);
     // It stands in the head and is not signed
-    assert_eq!(reader.value("Transfer-Encoding"), b"");
-    assert_eq!(reader.value(""), b"");
+    assert_eq!((reader.value("Transfer-Encoding"), reader.value_count("Transfer-Encoding")), (b"".to_vec(), 0));
+    assert_eq!((reader.value(""), reader.value_count("")), (b"".to_vec(), 0));
 }
 
 #[test]

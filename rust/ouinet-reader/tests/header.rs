@@ -23,6 +23,7 @@ fn sizes() {
         ("RESULT_SIZE", raw::RESULT_SIZE),
         ("RECORD_SIZE", raw::RECORD_SIZE),
         ("RING_LIMIT", raw::RING_LIMIT),
+        ("FIELD_LIMIT", raw::FIELD_LIMIT),
     ] {
         assert_eq!(defined(name), size as u64, "{name}");
     }

@@ -51,13 +51,13 @@ fn heads() {
     head(b"HTTP/1.1 200 OK\r\nA: b\rc\r\n\r\n", 17 + 5);
     head(b"HTTP/1.1 200 OK\r\nA: b\nc\r\n\r\n", 17 + 4);
     head(b"HTTP/1.1 200 OK\r\n\rA: b\r\n\r\n", 17 + 1);
-    let doubled = b"HTTP/1.1 200 OK\r\nA: b\r\na: c\r\n\r\n";
+    let doubled = b"HTTP/1.1 200 OK\r\nX-Ouinet-A: b\r\nx-ouinet-a: c\r\n\r\n";
     head(doubled, doubled.len() as u64);
     let fields: String = (0..65).map(|number| format!("f{number}:\r\n")).collect();
     let many = format!("HTTP/1.1 200 OK\r\n{fields}\r\n");
     head(many.as_bytes(), many.len() as u64);
     // Bad text goes before both
-    let both = format!("HTTP/1.1 200 OK\r\n{fields}F1: x\r\nA b\r\n\r\n");
+    let both = format!("HTTP/1.1 200 OK\r\n{fields}X-Ouinet-A:\r\nX-Ouinet-A:\r\nA b\r\n\r\n");
     head(both.as_bytes(), both.len() as u64 - 6);
     head(&b"x".repeat(8192), 8192);
 }

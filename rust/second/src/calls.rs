@@ -1,11 +1,12 @@
 //! How a list of calls is read (paper 01, "The plain reading", second part; "How a sitting goes"
-//! for the times of the handed-out parts; the table for refusals 1 and 2): feeds, answers and ends,
-//! with the lengths of the holds that each is lent. Nothing is kept but the bytes taken, the
-//! answers given, whether the end was told and the ring that judged the head; each call does the
-//! plain reading anew. That is slow for long streams in tiny pieces and plain to follow.
+//! for the times of the handed-out parts; the table for refusals 1 and 2; request #102 for the count
+//! of a field's lines): feeds, answers and ends, with the lengths of the holds that each is lent.
+//! Nothing is kept but the bytes taken, the answers given, whether the end was told and the ring that
+//! judged the head; each call does the plain reading anew. That is slow for long streams in tiny
+//! pieces and plain to follow.
 
 use crate::event::{Event, Question, Refusal};
-use crate::head::Head;
+use crate::head::Signed;
 use crate::plain::{self, Kind, Placed, Reading};
 use crate::ring::{Record, MOST_RECORDS};
 use std::ops::Range;
@@ -184,17 +185,24 @@ impl Calls {
         }
     }
 
-    /// The value of a signed field. Empty for any other name, before the head is accepted and
-    /// with too short a hold.
+    /// The value of a signed field, of its first line if it has several. Empty for any other name,
+    /// before the head is accepted and with too short a hold.
     pub fn value(&self, head_hold: usize, name: &[u8]) -> &[u8] {
+        self.signed(head_hold, name).map_or(&[], |field| &self.bytes[field.value])
+    }
+
+    /// How many lines a signed field has. 0 for any other name, before the head is accepted and with
+    /// too short a hold.
+    pub fn value_count(&self, head_hold: usize, name: &[u8]) -> usize {
+        self.signed(head_hold, name).map_or(0, |field| field.count)
+    }
+
+    /// The signed field of that name, at the times and with the holds at which it is handed out.
+    fn signed(&self, head_hold: usize, name: &[u8]) -> Option<Signed> {
         if head_hold < Holds::ENOUGH.head {
-            return &[];
+            return None;
         }
-        let accepted: Option<Head> = self.reading().accepted;
-        match accepted.and_then(|head| head.signed_value(name)) {
-            Some(range) => &self.bytes[range],
-            None => &[],
-        }
+        self.reading().accepted?.signed(name).cloned()
     }
 
     /// What lies in the three holds now, if the same holds were lent to all calls but those refused

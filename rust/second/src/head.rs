@@ -1,5 +1,6 @@
 //! The head: from the first byte of the stream to the first CR LF CR LF. It is judged once, whole.
-//! The rules are those of paper 01, "The head"; points of its list are cited by their first words.
+//! The rules are those of paper 01, "The head", points of whose list are cited by their first words, and for a name that
+//! comes in several lines those of request #102.
 
 use crate::base64;
 use crate::event::Refusal;
@@ -14,8 +15,10 @@ pub const LIMIT: usize = 8192;
 /// What a head ends with.
 pub const END: &[u8] = b"\r\n\r\n";
 
-const MOST_FIELDS: usize = 64;
-const MOST_LISTED: usize = 32;
+/// The most field lines of a head.
+pub const MOST_FIELDS: usize = 64;
+/// The most names in the signed list, the two pseudo names included.
+pub const MOST_LISTED: usize = 32;
 const MOST_BLOCK: u64 = 65_536;
 
 /// What the rest of the reading needs from a good head.
@@ -27,15 +30,26 @@ pub struct Head {
     pub signature: [u8; 64],
     pub record: usize,
     pub signing_string: Vec<u8>,
-    /// The listed fields: name in lower case, and where the value lies in the head.
-    pub signed: Vec<(Vec<u8>, Range<usize>)>,
+    /// The listed fields.
+    pub signed: Vec<Signed>,
+}
+
+/// A listed field, as it is handed out: "The handed-out value of a repeated field is its first part; a count says how many
+/// there are" (#102).
+#[derive(Debug, Clone, PartialEq, Eq)]
+pub struct Signed {
+    /// In lower case.
+    pub name: Vec<u8>,
+    /// Where the value of the first line lies in the head.
+    pub value: Range<usize>,
+    /// How many lines have the name.
+    pub count: usize,
 }
 
 impl Head {
-    /// Where the value of a listed field lies in the head. Names are compared without case.
-    pub fn signed_value(&self, name: &[u8]) -> Option<Range<usize>> {
-        let found = self.signed.iter().find(|(listed, _)| listed.eq_ignore_ascii_case(name))?;
-        Some(found.1.clone())
+    /// The listed field of that name, compared without case.
+    pub fn signed(&self, name: &[u8]) -> Option<&Signed> {
+        self.signed.iter().find(|field| field.name.eq_ignore_ascii_case(name))
     }
 }
 
@@ -60,12 +74,17 @@ pub fn judge(bytes: &[u8], ring: &[Record]) -> Result<Head, Refusal> {
         signature: rules.sig0.signature,
         record,
         signing_string: signing_string(&text, rules.sig0.created, &rules.listed),
-        signed: rules
-            .listed
-            .iter()
-            .map(|field| (bytes[field.name.clone()].to_ascii_lowercase(), field.value.clone()))
-            .collect(),
+        signed: rules.listed.into_iter().map(Listed::handed_out).collect(),
     })
+}
+
+/// Whether a name may come in more than one line: not one that begins `X-Ouinet-`, nor `Content-Length` or
+/// `Transfer-Encoding` (#102).
+pub fn may_repeat(name: &[u8]) -> bool {
+    let ours = b"X-Ouinet-";
+    let is_ours = name.get(..ours.len()).is_some_and(|front| front.eq_ignore_ascii_case(ours));
+    let is_framing = name.eq_ignore_ascii_case(b"Content-Length") || name.eq_ignore_ascii_case(b"Transfer-Encoding");
+    !is_ours && !is_framing
 }
 
 /// A field's name and trimmed value, as places in the head.
@@ -82,11 +101,11 @@ struct HeadText<'a> {
 }
 
 impl<'a> HeadText<'a> {
-    /// Everything that is refused with 3: the text, then the count, then a doubled name. With the last two the place is the
-    /// length taken (request #106: "For the other causes").
+    /// Everything that is refused with 3: the text, then the count of lines, then a name doubled that may not be. With the
+    /// last two the place is the length taken (request #106: "For the other causes").
     fn judge(bytes: &'a [u8]) -> Result<Self, Refusal> {
         let head = HeadText::parse(bytes).ok_or_else(|| Refusal::head(place(bytes)))?;
-        if head.fields.len() > MOST_FIELDS || head.has_doubled_name() {
+        if head.fields.len() > MOST_FIELDS || head.has_wrong_double() {
             return Err(Refusal::head(bytes.len()));
         }
         Ok(head)
@@ -111,25 +130,24 @@ impl<'a> HeadText<'a> {
         Some(HeadText { bytes, fields })
     }
 
-    fn has_doubled_name(&self) -> bool {
-        self.fields.iter().enumerate().any(|(number, field)| {
-            let name = self.name(field);
-            self.fields[..number].iter().any(|earlier| self.name(earlier).eq_ignore_ascii_case(name))
-        })
+    fn has_wrong_double(&self) -> bool {
+        let names = self.fields.iter().map(|field| self.name(field));
+        let single: Vec<&[u8]> = names.filter(|name| !may_repeat(name)).collect();
+        has_double(&single)
     }
 
     fn name(&self, field: &Field) -> &'a [u8] {
         &self.bytes[field.name.clone()]
     }
 
-    /// The field of that name, compared without case.
-    fn field(&self, name: &[u8]) -> Option<&Field> {
-        self.fields.iter().find(|field| self.name(field).eq_ignore_ascii_case(name))
+    /// The lines of that name, compared without case, in their order.
+    fn lines_of<'s>(&'s self, name: &'s [u8]) -> impl Iterator<Item = &'s Field> {
+        self.fields.iter().filter(move |field| self.name(field).eq_ignore_ascii_case(name))
     }
 
-    /// The trimmed value of the field of that name.
+    /// The trimmed value of the first line of that name. The names that the rules below ask for have no other line.
     fn value(&self, name: &[u8]) -> Option<&'a [u8]> {
-        self.field(name).map(|field| &self.bytes[field.value.clone()])
+        self.lines_of(name).next().map(|field| &self.bytes[field.value.clone()])
     }
 
     /// The three digits of the status line.
@@ -173,8 +191,8 @@ struct Rules<'a> {
     injection: Injection<'a>,
     bsigs: BSigs,
     sig0: Sig0<'a>,
-    /// The listed fields after the two pseudo names, in the list's order.
-    listed: Vec<Field>,
+    /// What the list has after the two pseudo names, in its order.
+    listed: Vec<Listed>,
 }
 
 impl<'a> Rules<'a> {
@@ -272,9 +290,27 @@ fn key_and_algorithm(rest: &mut Scan) -> Option<[u8; 32]> {
     Some(key)
 }
 
+/// A listed name, in lower case, and the values of all lines that have it: one at least.
+struct Listed {
+    name: Vec<u8>,
+    values: Vec<Range<usize>>,
+}
+
+impl Listed {
+    fn find(text: &HeadText, name: &[u8]) -> Option<Self> {
+        let values: Vec<Range<usize>> = text.lines_of(name).map(|field| field.value.clone()).collect();
+        (!values.is_empty()).then(|| Listed { name: name.to_ascii_lowercase(), values })
+    }
+
+    fn handed_out(self) -> Signed {
+        Signed { name: self.name, value: self.values[0].clone(), count: self.values.len() }
+    }
+}
+
 /// The fields of the signed list after `(response-status)` and `(created)`, if the list keeps all
-/// its rules ("headers"). Names are compared without case, the two pseudo names as well.
-fn listed_fields(text: &HeadText, list: &[u8]) -> Option<Vec<Field>> {
+/// its rules ("headers"). Names are compared without case, the two pseudo names as well. A name stands in the list once for
+/// all its lines.
+fn listed_fields(text: &HeadText, list: &[u8]) -> Option<Vec<Listed>> {
     let names: Vec<&[u8]> = list.split(|&b| b == b' ').collect();
     if names.len() > MOST_LISTED || has_double(&names) {
         return None;
@@ -287,7 +323,7 @@ fn listed_fields(text: &HeadText, list: &[u8]) -> Option<Vec<Field>> {
     if !pseudo_is_right || !all_needed || holds(b"X-Ouinet-Sig0") {
         return None;
     }
-    real.iter().map(|name| text.field(name).cloned()).collect()
+    real.iter().map(|name| Listed::find(text, name)).collect()
 }
 
 fn has_double(names: &[&[u8]]) -> bool {
@@ -298,17 +334,18 @@ fn has_double(names: &[&[u8]]) -> bool {
 }
 
 /// For each listed name: lower case, colon, space, value; a line feed between, none at the end
-/// ("Signing string", below the list).
-fn signing_string(text: &HeadText, created: &[u8], listed: &[Field]) -> Vec<u8> {
+/// ("Signing string", below the list). The values of a repeated field are joined "in order, with a comma and a space" (#102).
+fn signing_string(text: &HeadText, created: &[u8], listed: &[Listed]) -> Vec<u8> {
     let mut out = b"(response-status): ".to_vec();
     out.extend_from_slice(text.status_digits());
     out.extend_from_slice(b"\n(created): ");
     out.extend_from_slice(created);
     for field in listed {
         out.push(b'\n');
-        out.extend(text.name(field).to_ascii_lowercase());
+        out.extend_from_slice(&field.name);
         out.extend_from_slice(b": ");
-        out.extend_from_slice(&text.bytes[field.value.clone()]);
+        let values: Vec<&[u8]> = field.values.iter().map(|value| &text.bytes[value.clone()]).collect();
+        out.extend(values.join(&b", "[..]));
     }
     out
 }

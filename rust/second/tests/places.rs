@@ -96,7 +96,7 @@ fn many_fields(count: usize, more: &str) -> String {
 fn point_2_the_length_taken_is_the_section_s() {
     let head = many_fields(65, "");
     head_at(head.as_bytes(), head.len());
-    let doubled = many_fields(3, "F1: y\r\n");
+    let doubled = many_fields(3, "X-Ouinet-F: 1\r\nx-ouinet-f: 2\r\n");
     head_at(doubled.as_bytes(), doubled.len());
     assert_eq!(last(many_fields(64, "").as_bytes()), Event::Refused(Refusal::plain(4)));
 }
@@ -149,9 +149,9 @@ fn point_5_good_by_text_only() {
     line_at(b"ffffffff \r\n", 8);
     let after_65 = many_fields(65, "A b: c\r\n");
     head_at(after_65.as_bytes(), after_65.len() - 2 - 8 + 1);
-    let after_doubling = many_fields(3, "F1: y\r\nA\0: c\r\n");
+    let after_doubling = many_fields(3, "X-Ouinet-F:\r\nX-Ouinet-F:\r\nA\0: c\r\n");
     head_at(after_doubling.as_bytes(), after_doubling.len() - 2 - 7 + 1);
-    let before_both = format!("HTTP/1.1 200 OK\r\n: {}", &many_fields(70, "F1:\r\n")[17..]);
+    let before_both = format!("HTTP/1.1 200 OK\r\n: {}", &many_fields(70, "X-Ouinet-F:\r\nX-Ouinet-F:\r\n")[17..]);
     head_at(before_both.as_bytes(), 17);
 }
 

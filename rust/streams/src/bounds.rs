@@ -5,6 +5,7 @@ use crate::example;
 use crate::head::Field;
 use crate::plan::{blocks_of, Built, Kind, Plan, RingRecord, SizeStyle};
 use crate::rng::Rng;
+use crate::table::Table;
 use second::event::Refusal;
 
 /// So many bytes of a head or trailer, or of a line, without an end are refused.
@@ -15,7 +16,7 @@ const UNFINISHED: Refusal = Refusal { number: 11, at: None };
 
 /// All cases of this kind.
 pub fn all(rng: &mut Rng) -> Vec<Case> {
-    let mut table = Table { cases: Vec::new(), rng };
+    let mut table = Table::new(rng);
     table.head_lengths();
     table.field_counts();
     table.list_lengths();
@@ -29,18 +30,7 @@ pub fn all(rng: &mut Rng) -> Vec<Case> {
     table.cases
 }
 
-struct Table<'a> {
-    cases: Vec<Case>,
-    rng: &'a mut Rng,
-}
-
 impl Table<'_> {
-    /// A plan whose stream is good.
-    fn good(&mut self, label: impl Into<String>, plan: &Plan) {
-        let case = Case::whole(label, &plan.build(), Answering::Verified, self.rng);
-        self.cases.push(case);
-    }
-
     /// A plan whose head is refused for another reason than its text.
     fn head_refused(&mut self, number: u8, label: impl Into<String>, plan: &Plan) {
         let built = plan.build();

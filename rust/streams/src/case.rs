@@ -2,6 +2,7 @@
 
 use crate::answers;
 use crate::cuts;
+use crate::head;
 use crate::plan::{ring_text, Built, RingRecord};
 use crate::rng::Rng;
 use std::fs;
@@ -139,6 +140,13 @@ impl Case {
         Case::known(label, built.bytes(), &built.ring, &built.lines(), &built.body, answering, rng)
     }
 
+    /// A stream whose head is signed over another text than it should be: the answer is no.
+    pub fn wrongly_signed(label: impl Into<String>, built: &Built, rng: &mut Rng) -> Self {
+        let stream = built.bytes();
+        assert_eq!(answers::verified(&stream, &built.ring), [false], "the wrong text is the right one");
+        Case::known(label, stream, &built.ring, &built.lines(), &built.body, Answering::NoAfter(0), rng)
+    }
+
     /// A case of which only this is known: with verified answers, what is released is a beginning
     /// of the body that was signed.
     pub fn damaged(label: impl Into<String>, stream: Vec<u8>, built: &Built, verified: bool, rng: &mut Rng) -> Self {
@@ -154,6 +162,14 @@ impl Case {
             lack: None,
             expected,
         }
+    }
+
+    /// Whether some name comes in several lines of the stream's head.
+    pub fn has_repeated_field(&self) -> bool {
+        let names: Vec<&[u8]> = head::line_names(&self.stream).skip(1).collect();
+        let is_there_before =
+            |number: usize| names[..number].iter().any(|name| name.eq_ignore_ascii_case(names[number]));
+        (0..names.len()).any(is_there_before)
     }
 
     /// Writes the files of the case into a folder, and what is expected beside them.

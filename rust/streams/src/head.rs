@@ -72,3 +72,9 @@ pub fn replaced(bytes: &[u8], old: &[u8], new: &[u8]) -> Vec<u8> {
         .unwrap_or_else(|| panic!("{:?} is not there", String::from_utf8_lossy(old)));
     [&bytes[..start], new, &bytes[start + old.len()..]].concat()
 }
+
+/// What stands before the first colon of each line of a stream's head, the status line's the first.
+pub fn line_names(stream: &[u8]) -> impl Iterator<Item = &[u8]> {
+    let end = stream.windows(4).position(|four| four == b"\r\n\r\n").unwrap_or(stream.len());
+    stream[..end].split(|&byte| byte == b'\n').map(|line| line.split(|&byte| byte == b':').next().unwrap_or(line))
+}

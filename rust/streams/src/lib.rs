@@ -10,8 +10,10 @@
 //! * `random`: plans drawn at random;
 //! * `answers`, `cuts`: the other two files of a case;
 //! * `case`: a case and what is expected of it;
+//! * `table`: cases made one after another;
 //! * `rules`: a table of the rules of paper 01, each broken once;
 //! * `bounds`: both sides of each length limit;
+//! * `repeated`: heads in which a name comes in several lines;
 //! * `damage`: bytes changed, deleted, inserted, cut off;
 //! * `wrong_text`: damage to the text of a section;
 //! * `inputs`: malformed files;
@@ -34,9 +36,11 @@ pub mod long;
 pub mod options;
 pub mod plan;
 pub mod random;
+pub mod repeated;
 pub mod rng;
 pub mod rules;
 pub mod sequence;
+pub mod table;
 pub mod writer;
 pub mod wrong_text;
 

@@ -27,6 +27,11 @@ impl Options {
         Some(self.named.remove(place).1)
     }
 
+    /// All values of a word that may be given several times, in order.
+    pub fn all_named(&mut self, name: &str) -> Vec<String> {
+        std::iter::from_fn(|| self.named(name)).collect()
+    }
+
     pub fn number(&mut self, name: &str) -> Result<Option<u64>, String> {
         self.named(name).map(|value| parse_number(name, &value)).transpose()
     }

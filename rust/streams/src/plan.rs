@@ -198,34 +198,43 @@ impl Plan {
         .concat()
     }
 
-    /// The text that the head's signature covers. A listed name that is no field stands for
-    /// nothing, so that lists can be broken.
-    fn signing_string(&self, fields: &[Field]) -> Vec<u8> {
+    /// The text that the head's signature covers, with the values of a name's lines made one by
+    /// `join`. A listed name that is no field stands for nothing, so that lists can be broken.
+    fn signing_string(&self, fields: &[Field], join: &Join) -> Vec<u8> {
         let mut lines =
             vec![[b"(response-status): ", &self.status[..]].concat(), [b"(created): ", &self.created[..]].concat()];
         for name in &self.listed {
-            if let Some(field) = fields.iter().find(|field| field.name.eq_ignore_ascii_case(name)) {
-                lines.push([&name.to_ascii_lowercase()[..], b": ", &field.value].concat());
+            let same = fields.iter().filter(|field| field.name.eq_ignore_ascii_case(name));
+            let values: Vec<&[u8]> = same.map(|field| &field.value[..]).collect();
+            if !values.is_empty() {
+                lines.push([&name.to_ascii_lowercase()[..], b": ", &join(&values)].concat());
             }
         }
         lines.join(&b'\n')
     }
 
-    /// Builds the head; also gives the length of what its signature covers.
-    fn build_head(&self) -> (Head, usize) {
+    /// Builds the head, signed over the text that `join` makes; also gives the length of the text
+    /// that it should cover.
+    fn build_head(&self, join: &Join) -> (Head, usize) {
         let mut head = Head {
             status_line: [b"HTTP/1.1 ", &self.status[..], b" ", &self.reason].concat(),
             fields: self.fields.clone(),
         };
         head.set("X-Ouinet-BSigs", &self.bsigs());
-        let message = self.signing_string(&head.fields);
+        let due = self.signing_string(&head.fields, &joined).len();
+        let message = self.signing_string(&head.fields, join);
         head.set("X-Ouinet-Sig0", &self.sig0(&self.signer.sign(&message)));
-        (head, message.len())
+        (head, due)
     }
 
     /// Builds the whole stream.
     pub fn build(&self) -> Built {
-        let (head, asked) = self.build_head();
+        self.build_signed_over(&joined)
+    }
+
+    /// Builds the whole stream, the head signed with the values of a name's lines joined in this way.
+    pub fn build_signed_over(&self, join: &Join) -> Built {
+        let (head, asked) = self.build_head(join);
         let status = String::from_utf8_lossy(&self.status);
         let mut parts = vec![Part {
             kind: Kind::Head,
@@ -266,6 +275,14 @@ impl Plan {
         bytes.extend(b"\r\n");
         Part { kind, bytes, lines }
     }
+}
+
+/// How the values of a name's lines are made one.
+pub type Join = dyn Fn(&[&[u8]]) -> Vec<u8>;
+
+/// The right way: in order, with a comma and a space between (request #102).
+fn joined(values: &[&[u8]]) -> Vec<u8> {
+    values.join(&b", "[..])
 }
 
 /// What a block's signature covers.

@@ -7,7 +7,7 @@ use crate::sodium::Signer;
 
 const NAME_BYTES: &[u8] = b"abcdefghijklmnopqrstuvwxyzABCDEFGHIJKLMNOPQRSTUVWXYZ0123456789!#$%&'*+-.^_`|~";
 const ID_BYTES: &[u8] = b"abcdefghijklmnopqrstuvwxyzABCDEFGHIJKLMNOPQRSTUVWXYZ0123456789-_";
-const BLANKS: [&[u8]; 6] = [b"", b" ", b"  ", b"\t", b" \t", b"\t\t  "];
+pub(crate) const BLANKS: [&[u8]; 6] = [b"", b" ", b"  ", b"\t", b" \t", b"\t\t  "];
 
 /// An honest plan of any shape.
 pub fn plan(rng: &mut Rng) -> Plan {
@@ -150,7 +150,7 @@ fn any_second(rng: &mut Rng) -> u64 {
 }
 
 /// Bytes that a reason or a value may hold.
-fn any_text(rng: &mut Rng, most: usize) -> Vec<u8> {
+pub(crate) fn any_text(rng: &mut Rng, most: usize) -> Vec<u8> {
     let length = rng.below(most + 1);
     let mut text = Vec::with_capacity(length);
     while text.len() < length {
@@ -165,7 +165,7 @@ fn any_text(rng: &mut Rng, most: usize) -> Vec<u8> {
 }
 
 /// The text without blanks at its ends, which would not belong to a value.
-fn trimmed(mut text: Vec<u8>) -> Vec<u8> {
+pub(crate) fn trimmed(mut text: Vec<u8>) -> Vec<u8> {
     let blank = |byte: &u8| *byte == b' ' || *byte == b'\t';
     while text.last().is_some_and(blank) {
         text.pop();
@@ -174,7 +174,7 @@ fn trimmed(mut text: Vec<u8>) -> Vec<u8> {
     text.split_off(start)
 }
 
-fn change_case(text: &mut [u8], rng: &mut Rng) {
+pub(crate) fn change_case(text: &mut [u8], rng: &mut Rng) {
     match rng.below(4) {
         0 => text.make_ascii_lowercase(),
         1 => text.make_ascii_uppercase(),

@@ -1,5 +1,5 @@
-//! The cases of a seed, in order: first the fixed tables, then damaged text, then damage at every place
-//! (in an order that the seed shuffles) and random streams by turns.
+//! The cases of a seed, in order: first the fixed tables, then repeated fields, then damaged text, then
+//! damage at every place (in an order that the seed shuffles) and random streams by turns.
 
 use crate::bounds;
 use crate::case::{Answering, Case};
@@ -8,6 +8,7 @@ use crate::example;
 use crate::inputs;
 use crate::plan::Built;
 use crate::random;
+use crate::repeated;
 use crate::rng::Rng;
 use crate::rules::{self, Rule, Spot};
 use crate::wrong_text;
@@ -20,16 +21,18 @@ pub enum Group {
     Rules,
     Bounds,
     Inputs,
+    Repeated,
     Text,
     Damage,
     Mixed,
 }
 
-pub const GROUPS: [(&str, Group); 7] = [
+pub const GROUPS: [(&str, Group); 8] = [
     ("example", Group::Example),
     ("rules", Group::Rules),
     ("bounds", Group::Bounds),
     ("inputs", Group::Inputs),
+    ("repeated", Group::Repeated),
     ("text", Group::Text),
     ("damage", Group::Damage),
     ("mixed", Group::Mixed),
@@ -57,6 +60,8 @@ pub struct Sequence {
     number: u64,
     mixed: bool,
     fixed: VecDeque<Case>,
+    /// Heads with repeated fields. They have numbers of their own, so that no other case depends on them.
+    repeated: VecDeque<Case>,
     /// How many cases of damaged text are left.
     texts: usize,
     rules: Vec<Rule>,
@@ -85,8 +90,19 @@ impl Sequence {
         let small = damage::streams();
         let mut hits = if has(Group::Damage) { damage::every_place(&small) } else { Vec::new() };
         rng.shuffle(&mut hits);
+        let repeated = if has(Group::Repeated) { repeated::all(seed) } else { Vec::new() };
         let texts = if has(Group::Text) { wrong_text::COUNT } else { 0 };
-        Sequence { seed, number: 0, mixed: has(Group::Mixed), fixed, texts, rules, small, hits }
+        Sequence {
+            seed,
+            number: 0,
+            mixed: has(Group::Mixed),
+            fixed,
+            repeated: repeated.into(),
+            texts,
+            rules,
+            small,
+            hits,
+        }
     }
 
     /// How many cases the fixed tables have left.
@@ -104,6 +120,9 @@ impl Iterator for Sequence {
     type Item = Case;
 
     fn next(&mut self) -> Option<Case> {
+        if self.fixed.is_empty() && !self.repeated.is_empty() {
+            return self.repeated.pop_front();
+        }
         self.number += 1;
         if let Some(case) = self.fixed.pop_front() {
             return Some(case);

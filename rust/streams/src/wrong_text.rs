@@ -147,9 +147,9 @@ const HEAD: [Edit; 4] = [
             BAD_LINE.1(text, rng);
         }
     }),
-    ("a field twice, and perhaps a line that is none", |text, rng| {
+    ("a field of ours twice, and perhaps a line that is none", |text, rng| {
         let end = text.len() - 2;
-        text.splice(end..end, b"Twice: 1\r\ntWICE: 2\r\n".iter().copied());
+        text.splice(end..end, b"X-Ouinet-2: 1\r\nx-oUINET-2: 2\r\n".iter().copied());
         if rng.one_in(2) {
             BAD_LINE.1(text, rng);
         }

@@ -11,6 +11,7 @@ use std::collections::BTreeMap;
 use streams::case::{Case, Expected};
 use streams::example;
 use streams::plan::RingRecord;
+use streams::repeated;
 use streams::rng::Rng;
 use streams::sequence::{all_groups, Group, Sequence};
 use streams::sodium;
@@ -148,7 +149,7 @@ fn check(case: &Case, with_calls: bool) {
 #[test]
 fn reader_and_plain_reading_agree() {
     let groups: Vec<Group> = all_groups().into_iter().filter(|&group| group != Group::Text).collect();
-    for case in Sequence::new(11, &groups).take(2500).chain(Sequence::new(11, &[Group::Text]).take(1000)) {
+    for case in Sequence::new(11, &groups).take(3000).chain(Sequence::new(11, &[Group::Text]).take(1000)) {
         check(&case, false);
     }
 }
@@ -157,7 +158,7 @@ fn reader_and_plain_reading_agree() {
 fn calls_agree_on_short_streams() {
     let short = |groups: &[Group]| Sequence::new(12, groups).filter(|case| case.stream.len() < 3000);
     let cases = short(&[Group::Example, Group::Damage, Group::Mixed]).take(150);
-    for mut case in cases.chain(short(&[Group::Text]).take(60)) {
+    for mut case in cases.chain(short(&[Group::Text]).take(60)).chain(short(&[Group::Repeated]).step_by(5)) {
         if case.cuts.as_deref() == Some(b"1\n") {
             case.cuts = Some(b"7\n0\n1\n".to_vec());
         }
@@ -285,6 +286,54 @@ fn the_same_seed_gives_the_same_cases() {
     };
     assert_eq!(streams(4), streams(4));
     assert_ne!(streams(4), streams(5));
+}
+
+/// What is handed out of a random head, held against the lines that it was built from.
+#[test]
+fn values_and_counts_of_repeated_fields() {
+    let (mut rng, mut signed, mut unsigned) = (Rng::new(13), 0, 0);
+    for _ in 0..300 {
+        let plan = repeated::plan(&mut rng);
+        let built = plan.build();
+        let mut calls = Calls::new();
+        calls.feed(Holds::ENOUGH, &records(&built.ring), &built.bytes());
+        assert!(matches!(calls.answer(Holds::ENOUGH, true).word, Word::HeadAccepted { .. }));
+        for field in &built.head.fields {
+            let same = |name: &[u8]| name.eq_ignore_ascii_case(&field.name);
+            let values: Vec<&[u8]> =
+                built.head.fields.iter().filter(|line| same(&line.name)).map(|line| &line.value[..]).collect();
+            let is_listed = plan.listed.iter().any(|name| same(name));
+            let due = if is_listed { (values[0], values.len()) } else { (&b""[..], 0) };
+            assert_eq!((calls.value(8192, &field.name), calls.value_count(8192, &field.name)), due);
+            *if is_listed { &mut signed } else { &mut unsigned } += usize::from(values.len() > 1);
+        }
+    }
+    assert!(signed > 1000 && unsigned > 500, "only {signed} signed lines and {unsigned} others were repeated");
+}
+
+/// What the group of repeated fields has.
+#[test]
+fn repeated_fields_in_all_kinds_of_heads() {
+    let mut counts: BTreeMap<&str, usize> = BTreeMap::new();
+    for case in Sequence::new(5, &[Group::Repeated]).filter(Case::has_repeated_field) {
+        let Expected::Exactly { lines, .. } = &case.expected else { continue };
+        let last = lines.last().expect("an event");
+        let whole = case.stream.windows(4).position(|four| four == b"\r\n\r\n").map_or(0, |place| place + 4);
+        let kind = match last.as_str() {
+            "refused 4" | "refused 5" | "refused 12" => "another rule",
+            "refused 10" => "wrongly signed",
+            _ if last == &format!("refused 3 at {whole}") => "refused at its end",
+            _ if last.starts_with("refused 3") => "a bad line",
+            _ => "whole",
+        };
+        *counts.entry(kind).or_default() += 1;
+    }
+    println!("heads with a repeated field: {counts:?}");
+    for (kind, least) in
+        [("whole", 220), ("wrongly signed", 40), ("refused at its end", 80), ("a bad line", 40), ("another rule", 10)]
+    {
+        assert!(counts[kind] >= least, "{kind}: {}", counts[kind]);
+    }
 }
 
 /// Each kind of section is refused inside its text, and those that can be without end are refused for their length too.

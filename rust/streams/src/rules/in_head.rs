@@ -55,6 +55,7 @@ impl Table {
         }
     }
 
+    /// Names that may come only once (request #102); `repeated` has more of them, and those that may repeat.
     pub(super) fn doubled_names(&mut self) {
         for name in [VERSION, URI, INJECTION, BSIGS, SIG0, CODING] {
             self.doubled(format!("{name} twice"), move |head| {
@@ -67,17 +68,17 @@ impl Table {
                 head.fields.insert(0, field);
             });
         }
-        self.doubled("an unsigned name twice", |head| {
-            head.fields.insert(0, Field::new("Zz", "1"));
-            head.fields.push(Field::new("zZ", "2"));
+        self.doubled("an unsigned name of ours twice", |head| {
+            head.fields.insert(0, Field::new("X-Ouinet-Zz", "1"));
+            head.fields.push(Field::new("x-oUINET-zZ", "2"));
         });
-        self.doubled("two names next to each other, both empty", |head| {
-            head.fields.push(Field::new("~", ""));
-            head.fields.push(Field::new("~", ""));
+        self.doubled("two names of ours next to each other, both empty", |head| {
+            head.fields.push(Field::new("x-ouinet-", ""));
+            head.fields.push(Field::new("x-ouinet-", ""));
         });
     }
 
-    /// A head of good text that has a field twice or too many of them: its place is its whole length.
+    /// A head of good text that has a field twice that it may have once, or too many fields: its place is its whole length.
     fn doubled(&mut self, label: impl Into<String>, edit: impl Fn(&mut Head) + 'static) {
         self.head_text(label, edit, <[u8]>::len);
     }
@@ -194,8 +195,8 @@ impl Table {
     pub(super) fn order_in_the_head(&mut self) {
         self.doubled("a doubled name before version 5", |head| {
             head.set(VERSION, b"5");
-            head.fields.push(Field::new("date9", ""));
-            head.fields.push(Field::new("Date9", ""));
+            head.fields.push(Field::new("x-ouinet-date9", ""));
+            head.fields.push(Field::new("X-Ouinet-Date9", ""));
         });
         self.bad_last_line("bad text before a missing version", b"A: ", b"\x01", |head| head.drop_field(VERSION));
         self.bad_last_line("the last line's bad text before status 404", b"A", b" b:", |head| {
@@ -207,8 +208,8 @@ impl Table {
         });
         self.bad_last_line("bad text after too many fields", b"A: ", b"\x7f", |head| fill_fields(head, 70));
         self.bad_last_line("bad text after a doubled name", b"A", b"\t: x", |head| {
-            head.fields.insert(0, Field::new("~", ""));
-            head.fields.push(Field::new("~", ""));
+            head.fields.insert(0, Field::new("X-Ouinet-~", ""));
+            head.fields.push(Field::new("X-Ouinet-~", ""));
         });
         self.head(5, "version 5 before status 404", |head| {
             head.set(VERSION, b"5");

@@ -10,21 +10,20 @@ use Rattle.fields.specs.Table.{fieldsIn}
 use Rattle.names.proofs.NameLaws.{names-count}
 use Rattle.names.specs.NameList.{namesIn}
 use Rattle.stream.specs.Lines.{Field}
-use Rattle.stream.specs.Signing.{signedFields}
+use Rattle.stream.specs.Signing.{joinedFields}
 use Rattle.places.specs.Writing.{wrote}
-use Rattle.places.proofs.WritingLaws.{same-size}
 use Rattle.signing.specs.Writing.{following}
 use Rattle.signing.proofs.StringLaws.{turn-written, turns-end}
 use Rattle.signing.proofs.string.put_fields.Statement.{statement}
 use Rattle.signing.proofs.string.put_fields.Tie as tie
 
 abbrev Inv-loop : tie.InvT-loop
-Inv-loop text f list n out₀ from end at₀ i₀ out at i =
+Inv-loop text f list n out₀ from end at₀ i₀ t11 out at i =
     (length out ≡ length out₀)
-    × (wrote out at (following (signedFields (fieldsIn text f) (drop i (namesIn list n)))) ≡ wrote out₀ from (following (signedFields (fieldsIn text f) (drop 2 (namesIn list n)))))
+    × (wrote out at (following (joinedFields (fieldsIn text f) (drop i (namesIn list n)))) ≡ wrote out₀ from (following (joinedFields (fieldsIn text f) (drop 2 (namesIn list n)))))
 
 abbrev μ-loop : tie.MeasureT-loop
-μ-loop text f list n out₀ from end at₀ i₀ out at i = end - i
+μ-loop text f list n out₀ from end at₀ i₀ t11 out at i = end - i
 
 abbrev Fs : tie.At-loop Inv-loop μ-loop → List Field
 Fs a = let s = a .before .before .before .before .before .args in fieldsIn (now (s .text)) (s .f)
@@ -45,14 +44,17 @@ count-requires c κs = search needs
 loop-holds : tie.Need-loop-holds Inv-loop μ-loop
 loop-holds c = (refl, refl)
 
+slice-aggregate-put : tie.Need-slice-aggregate-put Inv-loop μ-loop
+slice-aggregate-put c = search needs
+
+put-requires : tie.Need-put-requires Inv-loop μ-loop
+put-requires c κs = search needs
+
 name-requires : tie.Need-name-requires Inv-loop μ-loop
 name-requires c κs = search needs
 
-value-of-requires : tie.Need-value-of-requires Inv-loop μ-loop
-value-of-requires c κs = search needs
-
-put-next-requires : tie.Need-put-next-requires Inv-loop μ-loop
-put-next-requires c κs = search needs
+put-field-requires : tie.Need-put-field-requires Inv-loop μ-loop
+put-field-requires c κs = search needs
 
 add-i : tie.Need-add-i Inv-loop μ-loop
 add-i c = search needs
@@ -63,14 +65,13 @@ loop-less c = search needs
 loop-again : tie.Need-loop-again Inv-loop μ-loop
 loop-again c =
     let w = c .before .before in
-    let v = w .before in
-    let m = v .before .before in
-    let a = m .before .before in
-    let g = goes-on (m .before) in
-    let x = a .loop .inv in (
-      same-size (a .loop .out) (a .loop .at) _ _ _ (w .put-next .ensures) ∙ x .0,
-      turn-written (Fs a) (Ns a) (a .loop .i) (a .loop .out) (a .loop .at) g _ _ (m .name .ensures) (v .value-of .ensures) _ _ (w .put-next .ensures) ∙ x .1,
-    )
+    let m = w .before .before in
+    let p = m .before .before .before in
+    let l = p .before .before .before in
+    let a = l .before in
+    let x = a .loop .inv in
+    let t = turn-written (Fs a) (Ns a) (a .loop .i) (a .loop .out) (a .loop .at) (goes-on l) _ (m .name .ensures) _ _ (p .put .ensures) _ _ (w .put-field .ensures) in
+    (t .0 ∙ x .0, t .1 ∙ x .1)
 
 same-length : tie.Need-same-length Inv-loop μ-loop
 same-length c = c .before .loop .inv .0
@@ -88,9 +89,10 @@ put-fields-spec =
     μ-loop
     count-requires
     loop-holds
+    slice-aggregate-put
+    put-requires
     name-requires
-    value-of-requires
-    put-next-requires
+    put-field-requires
     add-i
     loop-less
     loop-again

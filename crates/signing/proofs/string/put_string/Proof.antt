@@ -13,11 +13,17 @@ slice-aggregate-put-line c = search needs
 put-line-requires : tie.Need-put-line-requires
 put-line-requires c κs = search needs
 
-slice-aggregate-put-next : tie.Need-slice-aggregate-put-next
-slice-aggregate-put-next c = search needs
+slice-aggregate-put : tie.Need-slice-aggregate-put
+slice-aggregate-put c = search needs
 
-put-next-requires : tie.Need-put-next-requires
-put-next-requires c κs = search needs
+put-requires : tie.Need-put-requires
+put-requires c κs = search needs
+
+slice-aggregate-put-line-2 : tie.Need-slice-aggregate-put-line-2
+slice-aggregate-put-line-2 c = search needs
+
+put-line-requires-2 : tie.Need-put-line-requires-2
+put-line-requires-2 c κs = search needs
 
 put-fields-requires : tie.Need-put-fields-requires
 put-fields-requires c κs = search needs
@@ -28,10 +34,11 @@ same-length c = search needs
 returns : tie.Need-returns
 returns c =
     let q = c .before .before in
-    let p = q .before .before .before .before in
+    let s = q .before .before .before .before in
+    let p = s .before .before .before .before .before in
     let l = p .before .before .before .before .before in
     let a = l .before .before .before .before .before .before .before .before .args in
-    string-written (fieldsIn (now (a .text)) (a .f)) (namesIn (now (a .list)) (a .n)) _ _ _ _ _ (l .put-line .ensures) _ _ (p .put-next .ensures) _ _ (q .put-fields .ensures)
+    string-written (fieldsIn (now (a .text)) (a .f)) (namesIn (now (a .list)) (a .n)) _ _ _ _ _ (l .put-line .ensures) _ _ (p .put .ensures) _ _ (s .put-line2 .ensures) _ _ (q .put-fields .ensures)
 
 pub put-string-spec : {M : Type 1} → statement M
 put-string-spec =
@@ -39,8 +46,10 @@ put-string-spec =
     (tie.spec
     slice-aggregate-put-line
     put-line-requires
-    slice-aggregate-put-next
-    put-next-requires
+    slice-aggregate-put
+    put-requires
+    slice-aggregate-put-line-2
+    put-line-requires-2
     put-fields-requires
     same-length
     returns)

@@ -1,0 +1,5 @@
+pub mod Example
+pub mod Later
+pub mod OneValue
+pub mod OlderFault
+pub mod SameEvents
