@@ -2,14 +2,13 @@
 
 use crate::case::{Answering, Case};
 use crate::example;
-use crate::head::Field;
+use crate::head::{Field, LIMIT};
 use crate::plan::{blocks_of, Built, Kind, Plan, RingRecord, SizeStyle};
 use crate::rng::Rng;
 use crate::table::Table;
 use second::event::Refusal;
 
-/// So many bytes of a head or trailer, or of a line, without an end are refused.
-const LIMIT: usize = 8192;
+/// So many bytes of a line without an end are refused.
 const LINE_LIMIT: usize = 128;
 /// The end comes before the section's.
 const UNFINISHED: Refusal = Refusal { number: 11, at: None };
@@ -33,15 +32,7 @@ pub fn all(rng: &mut Rng) -> Vec<Case> {
 impl Table<'_> {
     /// A plan whose head is refused for another reason than its text.
     fn head_refused(&mut self, number: u8, label: impl Into<String>, plan: &Plan) {
-        let built = plan.build();
-        self.bytes(label, built.bytes(), &built, vec![Refusal::plain(number).to_string()]);
-    }
-
-    /// A plan whose head has too many bytes or fields: refused where the limit is reached, or else at its end.
-    fn head_too_long(&mut self, label: impl Into<String>, plan: &Plan) {
-        let built = plan.build();
-        let taken = built.parts[0].bytes.len().min(LIMIT);
-        self.bytes(label, built.bytes(), &built, vec![Refusal::head(taken).to_string()]);
+        self.refused(Refusal::plain(number), label, &plan.build());
     }
 
     /// Bytes for which the all-yes lines are these.
@@ -68,7 +59,7 @@ impl Table<'_> {
                 if length <= 8192 {
                     self.good(label, &plan);
                 } else {
-                    self.head_too_long(label, &plan);
+                    self.bad_head(label, &plan);
                 }
             }
         }
@@ -95,7 +86,7 @@ impl Table<'_> {
             if count <= 64 {
                 self.good(format!("{count} fields"), &plan);
             } else {
-                self.head_too_long(format!("{count} fields"), &plan);
+                self.bad_head(format!("{count} fields"), &plan);
             }
         }
     }

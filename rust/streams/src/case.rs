@@ -5,6 +5,7 @@ use crate::cuts;
 use crate::head;
 use crate::plan::{ring_text, Built, RingRecord};
 use crate::rng::Rng;
+use second::event::Refusal;
 use std::fs;
 use std::io;
 use std::os::unix::fs::symlink;
@@ -133,6 +134,12 @@ impl Case {
             lack: None,
             expected: Expected::Exactly { lines, body },
         }
+    }
+
+    /// A stream whose head is refused at once.
+    pub fn refused_head(refusal: Refusal, label: impl Into<String>, built: &Built, rng: &mut Rng) -> Self {
+        let lines = [refusal.to_string()];
+        Case::known(label, built.bytes(), &built.ring, &lines, &built.body, Answering::AllYes, rng)
     }
 
     /// A whole stream as it was built.

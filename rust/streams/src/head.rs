@@ -1,5 +1,8 @@
 //! A head as a status line and a list of field lines that can be edited before it is written out.
 
+/// The most bytes of a head, and of a trailer.
+pub const LIMIT: usize = 8192;
+
 /// A field line: name, colon, blanks, value, blanks.
 #[derive(Clone)]
 pub struct Field {

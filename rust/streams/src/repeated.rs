@@ -5,7 +5,7 @@
 use crate::case::{Answering, Case};
 use crate::damage;
 use crate::example;
-use crate::head::Field;
+use crate::head::{Field, LIMIT};
 use crate::plan::{Built, Join, Plan};
 use crate::random::{self, any_text, change_case, trimmed, BLANKS};
 use crate::rng::Rng;
@@ -18,7 +18,6 @@ const RANDOM: u64 = 300;
 /// The numbers of these cases begin here, where those of other groups never come.
 const FROM: u64 = 1 << 32;
 
-const LIMIT: usize = 8192;
 const MOST_FIELDS: usize = 64;
 const MOST_LISTED: usize = 32;
 /// The names that the example lists, the two pseudo names included.
@@ -117,19 +116,6 @@ fn plan_with(lines: &[(&str, &str)], listed: &[&str]) -> Plan {
 }
 
 impl Table<'_> {
-    /// A stream whose head is refused at once.
-    fn refused(&mut self, refusal: Refusal, label: impl Into<String>, built: &Built) {
-        let case = refused(refusal, label, built, self.rng);
-        self.cases.push(case);
-    }
-
-    /// A plan whose head has good text, and a name twice that may come once, or too many lines or bytes.
-    fn bad_head(&mut self, label: impl Into<String>, plan: &Plan) {
-        let built = plan.build();
-        let taken = built.parts[0].bytes.len().min(LIMIT);
-        self.refused(Refusal::head(taken), label, &built);
-    }
-
     /// A name's lines one after the other, or apart, in other cases and with blanks; signed or not.
     fn joined(&mut self) {
         for values in VALUES {
@@ -307,12 +293,6 @@ impl Table<'_> {
     }
 }
 
-/// A stream whose head is refused at once.
-fn refused(refusal: Refusal, label: impl Into<String>, built: &Built, rng: &mut Rng) -> Case {
-    let lines = [refusal.to_string()];
-    Case::known(label, built.bytes(), &built.ring, &lines, &built.body, Answering::AllYes, rng)
-}
-
 /// Puts a line that is none into a built head, behind so many fields. It is refused where that line goes wrong.
 fn put_bad_line(built: &mut Built, count: usize, line: &[u8], place: usize) -> Refusal {
     let before = built.head.status_line.len() + 2;
@@ -428,7 +408,7 @@ fn single_case(rng: &mut Rng) -> Case {
     }
     let built = plan.build();
     let refusal = Refusal::head(built.parts[0].bytes.len());
-    refused(refusal, format!("a random head with repeated fields, and {name} twice"), &built, rng)
+    Case::refused_head(refusal, format!("a random head with repeated fields, and {name} twice"), &built, rng)
 }
 
 /// A line that is none somewhere in a random head.
@@ -437,5 +417,5 @@ fn bad_line_case(rng: &mut Rng) -> Case {
     let mut built = plan.build();
     let (line, place) = *rng.pick(&ODD_LINES);
     let refusal = put_bad_line(&mut built, rng.below(plan.fields.len() + 1), line, place);
-    refused(refusal, "a random head with repeated fields, and a bad line", &built, rng)
+    Case::refused_head(refusal, "a random head with repeated fields, and a bad line", &built, rng)
 }

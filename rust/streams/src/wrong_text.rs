@@ -5,7 +5,7 @@
 
 use crate::case::Case;
 use crate::damage::odd_byte;
-use crate::head::Field;
+use crate::head::{Field, LIMIT};
 use crate::plan::{Built, Kind};
 use crate::random;
 use crate::rng::Rng;
@@ -13,7 +13,6 @@ use crate::rng::Rng;
 /// How many cases the group has.
 pub const COUNT: usize = 3600;
 
-const LIMIT: usize = 8192;
 const LINE_LIMIT: usize = 128;
 
 /// A case of a random stream.

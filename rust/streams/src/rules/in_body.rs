@@ -2,11 +2,11 @@
 
 use super::edits::*;
 use super::{Spoilt, Spot, Table, ANY_LINE, SIGNED_LINE};
+use crate::head::LIMIT;
 use crate::plan::Plan;
 
-/// So many bytes without an end are refused.
+/// So many bytes of a line without an end are refused.
 const LINE_LIMIT: usize = 128;
-const TRAILER_LIMIT: usize = 8192;
 
 impl Table {
     /// Chunk lines whose text is wrong, wherever they stand.
@@ -202,8 +202,8 @@ impl Table {
             self.text(format!("trailer: {label}"), &[Spot::Trailer], move |_| Spoilt::after(good, wrong));
         }
         self.text("trailer: no end in 8,192 bytes", &[Spot::Trailer], |_| {
-            Spoilt::taken(b"A: b\r\n".repeat(2000), TRAILER_LIMIT)
+            Spoilt::taken(b"A: b\r\n".repeat(2000), LIMIT)
         });
-        self.text("trailer: one endless line", &[Spot::Trailer], |_| Spoilt::taken(b"a".repeat(9000), TRAILER_LIMIT));
+        self.text("trailer: one endless line", &[Spot::Trailer], |_| Spoilt::taken(b"a".repeat(9000), LIMIT));
     }
 }
