@@ -2,7 +2,7 @@
 -- most the number of fields that a head may have. Assumes nothing.
 use mathlib.Core.Bool.{Bool, true, false, _&&_}
 use mathlib.Core.List.{List, [], _∷_}
-use mathlib.Core.Path.{_≡_, refl, ap, _∙_}
+use mathlib.Core.Path.{_≡_, refl}
 use native.Mathlib.Omega.{arith}
 use borrow.Author.Tests.{eqb-true, leb-true}
 use Prim.Native.Nat.{ℕ, _-_, _≤_}
@@ -45,67 +45,50 @@ count-small n (f ∷ fs) = by (sameName n (f .name)) (count-small n fs)
     by true ih = omega (arith, ih)
     by false ih = omega (arith, ih)
 
--- ---- the fields of a text that breaks no rule of heads
+-- ---- what a text hands out of a name: nothing, or all that its head has of it, and then no rule is broken
 
-module _ (text name : List ℕ) (e : firstBroken (textRules text (headOf text)) ≡ 0) where
-  kept : AllHold (textRules text (headOf text))
+module _ (text name : List ℕ) (P : List (List ℕ) → Type 0) (nothing : P [])
+    (all : AllHold (textRules text (headOf text)) → P (valuesOf name (headOf text .fields))) where
+  names-good : AllHold (textRules text (headOf text)) → isNameList (headOf text .fields) (listedNames (headOf text)) ≡ true
   unfolding textRules
-  kept = rules-hold (textRules text (headOf text)) refl e
+  names-good rules = search
 
-  names-good : isNameList (headOf text .fields) (listedNames (headOf text)) ≡ true
-  unfolding textRules
-  names-good = let rules = kept in search
-
-  lines-good : areFieldLines (headOf text .fieldLines) ≡ true
-  unfolding textRules
-  lines-good = let rules = kept in search
-
-  few : length (headOf text .fields) ≤ fieldLimit
-  unfolding textRules
-  few = let rules = kept in let h : leb (length (headOf text .fields)) fieldLimit ≡ true = search in leb-true (length (headOf text .fields)) fieldLimit h
-
-  -- all that the head has of the name, or nothing
-  abbrev given : Bool
-  given = among name (listedFields (listedNames (headOf text)))
-
-  value-picked : valueOf name (signedOf (headOf text)) ≡ nth 0 (pick given (valuesOf name (headOf text .fields)) [])
-  value-picked = first-value name (signedOf (headOf text)) ∙ ap (nth 0) (signed-of (headOf text) name names-good)
-
-  value-fits : length (valueOf name (signedOf (headOf text))) ≤ length text
-  unfolding headOf headWith
-  value-fits = rw value-picked (by given)
+  values-out : P (valuesOf name (fieldsOut text))
+  unfolding fieldsOut textRules valuesOf
+  values-out = by (eqb (firstBroken (textRules text (headOf text))) 0) refl
     where
-      by : (t : Bool) → length (nth 0 (pick t (valuesOf name (headOf text .fields)) [])) ≤ length text
-      by true =
-          rw (← first-value name (headOf text .fields))
-          (omega (arith, value-small name (headOf text .fields), fields-size (headOf text .fieldLines) lines-good, field-lines-size text))
-      by false = omega arith
+      if-listed : AllHold (textRules text (headOf text)) → (t : Bool) → P (pick t (valuesOf name (headOf text .fields)) [])
+      if-listed rules true = all rules
+      if-listed rules false = nothing
 
-  count-fits : countOf name (signedOf (headOf text)) ≤ fieldLimit
-  count-fits = rw (signed-of (headOf text) name names-good) (by given)
-    where
-      by : (t : Bool) → length (pick t (valuesOf name (headOf text .fields)) []) ≤ fieldLimit
-      by true = omega (arith, count-small name (headOf text .fields), few)
-      by false = omega arith
+      by : (t : Bool) → eqb (firstBroken (textRules text (headOf text))) 0 ≡ t → P (valuesOf name (pick t (signedOf (headOf text)) []))
+      by true e =
+          let rules = rules-hold (textRules text (headOf text)) refl (eqb-true (firstBroken (textRules text (headOf text))) 0 e) in
+          rw (signed-of (headOf text) name (names-good rules)) (if-listed rules (among name (listedFields (listedNames (headOf text)))))
+      by false e = nothing
 
 -- ---- the room
 
 module _ (text name : List ℕ) where
+  first-fits : AllHold (textRules text (headOf text)) → length (nth 0 (valuesOf name (headOf text .fields))) ≤ length text
+  unfolding textRules headOf headWith
+  first-fits rules =
+      let lines : areFieldLines (headOf text .fieldLines) ≡ true = search in
+      rw (← first-value name (headOf text .fields))
+      (omega (arith, value-small name (headOf text .fields), fields-size (headOf text .fieldLines) lines, field-lines-size text))
+
   out-short : length (valueOf name (fieldsOut text)) ≤ length text
-  unfolding fieldsOut valueOf
-  out-short = by (eqb (firstBroken (textRules text (headOf text))) 0) (λ e. value-fits text name (eqb-true (firstBroken (textRules text (headOf text))) 0 e))
-    where
-      by : (t : Bool) → (t ≡ true → length (valueOf name (signedOf (headOf text))) ≤ length text) → length (valueOf name (pick t (signedOf (headOf text)) [])) ≤ length text
-      by true h = h refl
-      by false h = omega arith
+  out-short =
+      rw (first-value name (fieldsOut text)) (values-out text name (λ (vs : List (List ℕ)). length (nth 0 vs) ≤ length text) (omega arith) first-fits)
+
+  all-few : AllHold (textRules text (headOf text)) → length (valuesOf name (headOf text .fields)) ≤ fieldLimit
+  unfolding textRules
+  all-few rules =
+      let few : leb (length (headOf text .fields)) fieldLimit ≡ true = search in
+      omega (arith, count-small name (headOf text .fields), leb-true (length (headOf text .fields)) fieldLimit few)
 
   out-few : countOf name (fieldsOut text) ≤ fieldLimit
-  unfolding fieldsOut valuesOf
-  out-few = by (eqb (firstBroken (textRules text (headOf text))) 0) (λ e. count-fits text name (eqb-true (firstBroken (textRules text (headOf text))) 0 e))
-    where
-      by : (t : Bool) → (t ≡ true → countOf name (signedOf (headOf text)) ≤ fieldLimit) → countOf name (pick t (signedOf (headOf text)) []) ≤ fieldLimit
-      by true h = h refl
-      by false h = omega arith
+  out-few = values-out text name (λ (vs : List (List ℕ)). length vs ≤ fieldLimit) (omega arith) all-few
 
 head-short : (room : List ℕ) (n : ℕ) → length (acceptedHead room n) ≤ length room
 unfolding acceptedHead

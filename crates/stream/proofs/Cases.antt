@@ -45,6 +45,14 @@ lineSays (stop (refused n at)) = n ∷ []
 first : String → List ℕ
 first line = lineSays (judgeFirstLine show (octets line ++ octets "\r\n"))
 
+-- what a section says that is asked about or refused: 0 and the length of the message, or the refusal's number and place
+unfoldable pub said : Says → List ℕ
+said (go c) = []
+said (tell e c) = []
+said (ask q y) = 0 ∷ length (q .message) ∷ []
+said (stop (closed total)) = []
+said (stop (refused n at)) = n ∷ at ∷ []
+
 -- an event as its line of output has it: a code for the word, and its numbers
 unfoldable pub told : Event Question Release LastWord → List ℕ
 told (question q) = 1 ∷ length (q .message) ∷ []

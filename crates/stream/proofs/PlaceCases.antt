@@ -10,10 +10,8 @@ use Rattle.octets.specs.Octets.{octets}
 use Rattle.base64.specs.Base64.{letterValue, isBase64, holdsThree, holdsTwo, holdsOne}
 use Rattle.scanner.specs.Form.{stepForm, reachForm}
 use Rattle.scanner.specs.Scanner.{reach, reachFrom}
-use Rattle.sections.specs.Reading.{go, tell, ask, stop}
 use Rattle.stream.specs.Blocks.{carriesSignature, isChunkLine, chunkSize, lineRules, lineFault}
 use Rattle.stream.specs.Bytes.{all, same, lowered, sameName}
-use Rattle.stream.specs.Events.{closed, refused}
 use Rattle.stream.specs.Fields.{among, isProtected, isProtectedDoubled, namesOf, hasField, valueOf}
 use Rattle.stream.specs.Forms.{signatureForm, sizeForm, chunkForm, dataEndForm, nameForm, fieldForm, fieldLineForm, trailerForm, statusForm, statusLineForm, headForm}
 use Rattle.stream.specs.Head.{endsHead, headWith as readHead, headOf, statusDigits, textRules, trustRules, headFault}
@@ -25,7 +23,7 @@ use Rattle.stream.specs.Signatures.{injectionScan, bsigsScan, sig0Scan}
 use Rattle.stream.specs.Stream.{nothing, Says, judgeHead, judgeFirstLine, judgeDataEnd, judgeNextLine, judgeTrailer}
 use Rattle.stream.specs.Template.{run, past, startsWith, scan}
 use Rattle.stream.specs.Trailer.{endsTrailer, isTrailer}
-use Rattle.stream.proofs.Cases.{Case, case, holdsAll}
+use Rattle.stream.proofs.Cases.{said, Case, case, holdsAll}
 use Rattle.stream.proofs.Example.{show}
 
 -- a place
@@ -33,15 +31,8 @@ abbrev row : String → ℕ → ℕ → Case
 row name found due = case name (found ∷ []) (due ∷ [])
 
 -- the number and the place of a refusal
-abbrev numbersIn : Says → List ℕ
-numbersIn (go c) = []
-numbersIn (tell e c) = []
-numbersIn (ask q y) = []
-numbersIn (stop (closed total)) = []
-numbersIn (stop (refused n at)) = n ∷ at ∷ []
-
 abbrev says : String → Says → List ℕ → Case
-says name v due = case name (numbersIn v) due
+says name v due = case name (said v) due
 
 -- ---- texts with their line ends
 
@@ -128,5 +119,5 @@ rows =
     ∷ []
 
 pub places : holdsAll rows ≡ true
-unfolding rows holdsAll letterValue isBase64 holdsThree holdsTwo holdsOne stepForm reachForm reach reachFrom all same lowered sameName among isProtected isProtectedDoubled namesOf hasField valueOf signatureForm sizeForm chunkForm dataEndForm nameForm fieldForm fieldLineForm trailerForm statusForm statusLineForm headForm endsHead endsWith headPlace linePlace dataEndPlace trailerPlace endsTrailer isTrailer lines beforeEmpty textLines trimmed fieldScan isFieldLine fieldOf areFieldLines fieldsOf statusScan isStatusLine statusOf scan run past startsWith numberFrom isDecimal isHexNumber isChunkLine carriesSignature chunkSize lineRules lineFault firstBroken readHead headOf statusDigits injectionScan bsigsScan sig0Scan textRules trustRules headFault judgeHead judgeFirstLine judgeDataEnd judgeNextLine judgeTrailer
+unfolding rows holdsAll said letterValue isBase64 holdsThree holdsTwo holdsOne stepForm reachForm reach reachFrom all same lowered sameName among isProtected isProtectedDoubled namesOf hasField valueOf signatureForm sizeForm chunkForm dataEndForm nameForm fieldForm fieldLineForm trailerForm statusForm statusLineForm headForm endsHead endsWith headPlace linePlace dataEndPlace trailerPlace endsTrailer isTrailer lines beforeEmpty textLines trimmed fieldScan isFieldLine fieldOf areFieldLines fieldsOf statusScan isStatusLine statusOf scan run past startsWith numberFrom isDecimal isHexNumber isChunkLine carriesSignature chunkSize lineRules lineFault firstBroken readHead headOf statusDigits injectionScan bsigsScan sig0Scan textRules trustRules headFault judgeHead judgeFirstLine judgeDataEnd judgeNextLine judgeTrailer
 places = refl

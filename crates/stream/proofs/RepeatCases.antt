@@ -12,10 +12,9 @@ use Rattle.hash.specs.Sha2.{bigEndian, padding, padded, number, parsed, schedul
 use Rattle.hash.specs.Sha512.{roundWords, sha512}
 use Rattle.scanner.specs.Form.{stepForm, reachForm}
 use Rattle.scanner.specs.Scanner.{reach, reachFrom}
-use Rattle.sections.specs.Reading.{go, tell, ask, stop, cut, sections, readingAt, reading}
+use Rattle.sections.specs.Reading.{cut, sections, readingAt, reading}
 use Rattle.stream.specs.Blocks.{isWholeLine, carriesSignature, isChunkLine, chunkSize, lineSignature, lineRules, lineFault, chained, blockMessage}
 use Rattle.stream.specs.Bytes.{all, same, lowered, sameName}
-use Rattle.stream.specs.Events.{closed, refused}
 use Rattle.stream.specs.Fields.{among, isDoubled, isProtected, isProtectedDoubled, namesOf, hasField, valueOf, valuesOf, countOf}
 use Rattle.stream.specs.Forms.{nameForm, fieldForm, fieldLineForm, trailerForm, statusForm, statusLineForm, headForm}
 use Rattle.stream.specs.Head.{endsHead, isWholeHead, headWith, headOf, statusDigits, injectionId, injectionTime, blockSize, blockKey, headKey, listedNames, headSignature, signedOf, signingString, trustedBy, textRules, trustRules, headFault}
@@ -26,10 +25,10 @@ use Rattle.stream.specs.Ring.{fits, firstFrom, found}
 use Rattle.stream.specs.Rule.{firstBroken}
 use Rattle.stream.specs.Signatures.{injectionScan, isInjection, bsigsScan, isBsigs, sig0Scan, isSig0, splitNames, areFields, isNameList}
 use Rattle.stream.specs.Signing.{separated, signedFields, joinedFields, signingLine, signingText}
-use Rattle.stream.specs.Stream.{Says, isWhole, showOf, headQuestion, acceptHead, judgeHead, judgeFirstLine, judgeDataEnd, blockQuestion, acceptBlock, judgeNextLine, judgeTrailer, judge, rules, plainReading}
+use Rattle.stream.specs.Stream.{isWhole, showOf, headQuestion, acceptHead, judgeHead, judgeFirstLine, judgeDataEnd, blockQuestion, acceptBlock, judgeNextLine, judgeTrailer, judge, rules, plainReading}
 use Rattle.stream.specs.Template.{run, past, startsWith, scan}
 use Rattle.stream.specs.Trailer.{endsTrailer, isWholeTrailer, isTrailer}
-use Rattle.stream.proofs.Cases.{told, events, Case, case, holdsAll}
+use Rattle.stream.proofs.Cases.{said, told, events, Case, case, holdsAll}
 use Rattle.stream.proofs.Example.{exampleHead, signedLine, ring}
 
 -- ---- heads: the example's, which has 705 bytes, 9 fields and a signing string of 219 bytes, with more in it
@@ -67,14 +66,6 @@ areProtected names = map (λ (s : String). asNumber (isProtected (octets s))) na
 
 areDoubled : List String → List ℕ
 areDoubled names = asNumber (isProtectedDoubled (map (λ (s : String). octets s) names)) ∷ []
-
--- 0 and the length of the message that is asked about, or the refusal's number and place
-said : Says → List ℕ
-said (go c) = []
-said (tell e c) = []
-said (ask q y) = 0 ∷ length (q .message) ∷ []
-said (stop (closed total)) = []
-said (stop (refused n at)) = n ∷ at ∷ []
 
 judged : List ℕ → List ℕ
 judged l = said (judgeHead ring l)
