@@ -9,7 +9,7 @@
 .PHONY: run test long fuzz bench program fetch picture
 
 run: program
-	@cd crates/ouiread/data && ../../../target/bin/ouiread stream ring answers
+	@cd crates/ouiread/data && ../../../target/bin/ouiread stream ring answers --uri uri
 
 test:
 	@scripts/gate

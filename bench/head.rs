@@ -12,6 +12,8 @@ extern "C" {
         key_len: usize,
         first: u64,
         last: u64,
+        uri: *const u8,
+        uri_len: usize,
         question: *mut u8,
         question_len: usize,
     ) -> u8;
@@ -21,8 +23,11 @@ extern "C" {
 const KEY: &str = "AAAAAAAAAAAAAAAAAAAAAAAAAAAAAAAAAAAAAAAAAAA=";
 const SIGNATURE: &str = "AAAAAAAAAAAAAAAAAAAAAAAAAAAAAAAAAAAAAAAAAAAAAAAAAAAAAAAAAAAAAAAAAAAAAAAAAAAAAAAAAAAAAA==";
 
-fn judge(head: &[u8], question: &mut [u8]) -> u8 {
-    // The three lengths are those of the three parts of memory, and question overlaps neither of the others.
+// The URI that all heads here have, and that is asked for.
+const URI: &str = "/";
+
+fn judge(head: &[u8], uri: &str, question: &mut [u8]) -> u8 {
+    // The four lengths are those of the four parts of memory, and question overlaps none of the others.
     unsafe {
         thawrushes_judge_head(
             head.as_ptr(),
@@ -31,6 +36,8 @@ fn judge(head: &[u8], question: &mut [u8]) -> u8 {
             KEY.len(),
             0,
             u64::MAX,
+            uri.as_ptr(),
+            uri.len(),
             question.as_mut_ptr(),
             question.len(),
         )
@@ -67,7 +74,7 @@ fn repeated(single: usize, name: &str) -> Vec<u8> {
     let head = head_of(8192, &fields, &format!("{listed} {name}"), name);
     assert_eq!(names(&head).count(), 5 + single + 1);
     let mut question = vec![0; 8192];
-    assert_eq!(judge(&head, &mut question), 0);
+    assert_eq!(judge(&head, URI, &mut question), 0);
     let joined = format!("\n{name}: {:0width$}, {:0width$}, {:0width$}, ", 0, 1, 2);
     assert!(String::from_utf8(question).unwrap().contains(&joined));
     head
@@ -89,7 +96,7 @@ fn head_of(n: usize, fields: &str, listed: &str, filler: &str) -> Vec<u8> {
     let names = format!("(response-status) (created) x-ouinet-version x-ouinet-uri x-ouinet-injection{listed}");
     let key = format!("keyId=\"ed25519={KEY}\",algorithm=\"hs2019\"");
     let start = format!(
-        "HTTP/1.1 200 OK\r\nX-Ouinet-Version: 4\r\nX-Ouinet-URI: /\r\nX-Ouinet-Injection: id=a,ts=1\r\n\
+        "HTTP/1.1 200 OK\r\nX-Ouinet-Version: 4\r\nX-Ouinet-URI: {URI}\r\nX-Ouinet-Injection: id=a,ts=1\r\n\
          X-Ouinet-Sig0: {key},created=1,headers=\"{names}\",signature=\"{SIGNATURE}\"\r\n\
          X-Ouinet-BSigs: {key},size=65536\r\nTransfer-Encoding: chunked\r\n{fields}{filler}: "
     );
@@ -106,7 +113,7 @@ fn median(head: &[u8]) -> f64 {
     let mut times: Vec<f64> = (0..2001)
         .map(|_| {
             let start = Instant::now();
-            assert_eq!(judge(head, &mut question), 0);
+            assert_eq!(judge(head, URI, &mut question), 0);
             start.elapsed().as_secs_f64() * 1e6
         })
         .collect();
@@ -116,10 +123,11 @@ fn median(head: &[u8]) -> f64 {
 }
 
 fn main() {
-    // A head that breaks a rule shows that the judgement is made.
+    // A head that breaks a rule, and one that was not asked for, show that the judgement is made.
     let mut wrong = head(8192);
     wrong[9] = b'4';
-    assert_eq!(judge(&wrong, &mut [0; 8192]), 4);
+    assert_eq!(judge(&wrong, URI, &mut [0; 8192]), 4);
+    assert_eq!(judge(&head(8192), "/other", &mut [0; 8192]), 16);
     println!("one judgement of a head of 64 fields and 32 listed names, median of 2001 in microseconds:");
     let half = median(&head(4096));
     let whole = median(&head(8192));

@@ -31,7 +31,7 @@ static struct block blocks[MOST_BLOCKS];
 static size_t count, reached;
 
 void feature_of_word(uint8_t word, uint64_t first) {
-    counters[MOST_BLOCKS + (word == 5 ? 8 + first % 16 : word % 8)] = 1;
+    counters[MOST_BLOCKS + (word == 5 ? 8 + first % 32 : word % 8)] = 1;
 }
 
 /* The block that starts there; the list is in order. */

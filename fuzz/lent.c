@@ -34,6 +34,7 @@ const struct lent *lent(void) {
         made.result = guarded(OUINET_READER_RESULT_SIZE);
         made.piece = guarded(MOST_PIECE);
         made.ring = guarded((OUINET_READER_RING_LIMIT + 1) * OUINET_READER_RECORD_SIZE);
+        made.uri = guarded(MOST_URI);
     }
     return &made;
 }

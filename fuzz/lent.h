@@ -7,9 +7,11 @@
 
 /* The longest piece that is fed. */
 #define MOST_PIECE 65536
+/* The longest URI that is asked for. */
+#define MOST_URI 16384
 
 struct lent {
-    uint8_t *state, *head, *block, *question, *result, *piece, *ring;
+    uint8_t *state, *head, *block, *question, *result, *piece, *ring, *uri;
 };
 
 /* The buffers, made at the first call. Each ends where a page begins that cannot be read or written; head, block and question,

@@ -1,22 +1,26 @@
 /* A fuzz target for the C interface, for libFuzzer under AddressSanitizer. fuzz/run builds it and runs it for a while.
  *
- * An input is a byte for the cuts, one for the answers, one for the lengths, and then a stream. The stream is read twice, in
- * pieces as long as can be and in small ones, and both readings must tell the same events at the same places. Where the first
- * byte is 255, a state comes before the stream, made up by the fuzzer: then the calls need only stay within their buffers and
- * say one of the words. (What the events must be is compared with another reader by rust/fuzz-calls.)
+ * An input is a byte for the cuts, one for the answers, one for the lengths, one for the URI asked for, and then a stream. The
+ * stream is read twice, in pieces as long as can be and in small ones, and both readings must tell the same events at the same
+ * places. Where the first byte is 255, a state comes before the stream, made up by the fuzzer: then the calls need only stay
+ * within their buffers and say one of the words. (What the events must be is compared with another reader by rust/fuzz-calls.)
  */
 #include <string.h>
 
 #include "../include/ouinet_reader.h"
 #include "features.h"
 #include "lent.h"
+#include "uri.h"
 
-/* An input's first three bytes. */
+/* An input's first four bytes. */
 struct plan {
     uint8_t cuts;    /* the seed of the piece lengths */
     uint8_t answers; /* so many are yes, then comes a no; 255: all are yes */
     uint8_t lengths; /* which buffer is too short now and then; 0: none */
+    uint8_t uri;     /* the URI asked for; 0: the head's, see uri.h */
 };
+
+static const struct plan enough = {0, 0, 0, 0};
 
 /* What one reading has told: a digest of all events, and what the next ones must fit to. */
 struct told {
@@ -26,6 +30,7 @@ struct told {
     unsigned answers;
     int accepted;
     int over;
+    int is_asked_for; /* whether the URI asked for is the head's */
 };
 
 /* The public half of the test key, whose streams the first inputs are; see rust/streams/src/example.rs. */
@@ -72,11 +77,12 @@ static uint8_t feed(const struct plan *plan, const uint8_t *bytes, size_t length
     const struct lent *l = lent();
     uint8_t *piece = l->piece + MOST_PIECE - length;
     size_t records = plan->lengths == 6 ? OUINET_READER_RING_LIMIT + 1 : 3;
+    const uint8_t *asked = asked_uri();
     memmove(piece, bytes, length);
     return ouinet_reader_feed(l->state, cut(plan, 1, OUINET_READER_STATE_SIZE), l->head, cut(plan, 2, OUINET_READER_HEAD_SIZE),
                               l->block, cut(plan, 3, OUINET_READER_BLOCK_SIZE), l->question,
                               cut(plan, 4, OUINET_READER_QUESTION_SIZE), ring(records),
-                              cut(plan, 7, records * OUINET_READER_RECORD_SIZE), piece, length, l->result,
+                              cut(plan, 7, records * OUINET_READER_RECORD_SIZE), asked, asked_length(), piece, length, l->result,
                               cut(plan, 5, OUINET_READER_RESULT_SIZE));
 }
 
@@ -143,7 +149,7 @@ static void tell_lines(struct told *told) {
 
 /* The word with all it carries, and what is handed out after it. */
 static void tell(struct told *told, uint8_t word) {
-    static const uint8_t uri[] = "X-Ouinet-URI";
+    static const uint8_t name[] = "X-Ouinet-URI";
     const struct lent *l = lent();
     uint64_t first = first_number(), second = second_number();
     uint8_t value[OUINET_READER_HEAD_SIZE];
@@ -156,14 +162,23 @@ static void tell(struct told *told, uint8_t word) {
         digest(told, l->block, block);
     }
     if (word == OUINET_READER_CLOSED) must(first == told->body, "the total is that of the blocks");
-    if (word == OUINET_READER_REFUSED) check_place(told->place);
-    if (word == OUINET_READER_QUESTION) digest(told, l->question, first);
+    if (word == OUINET_READER_REFUSED) {
+        check_place(told->place);
+        must(first != OUINET_READER_OTHER_URI || !told->is_asked_for, "the head's own URI is not refused");
+    }
+    if (word == OUINET_READER_QUESTION) {
+        must(told->is_asked_for, "a head of another URI is not asked about");
+        digest(told, l->question, first);
+    }
     if (word == OUINET_READER_HEAD) {
-        size_t length = ouinet_reader_value(l->state, OUINET_READER_STATE_SIZE, l->head, OUINET_READER_HEAD_SIZE, uri,
-                                            sizeof uri - 1, value, sizeof value);
+        size_t length = ouinet_reader_value(l->state, OUINET_READER_STATE_SIZE, l->head, OUINET_READER_HEAD_SIZE, name,
+                                            sizeof name - 1, value, sizeof value);
         must(length > 0 && length <= sizeof value, "an accepted head has its URI");
+        must(length == asked_length() && memcmp(value, asked_uri(), length) == 0, "and it is the one asked for");
         digest(told, value, length);
         told->accepted = 1;
+        /* It is not looked at any more */
+        ask_otherwise(told->place);
     }
     tell_lines(told);
     digest(told, (const uint8_t *)&told->place, sizeof told->place);
@@ -175,7 +190,6 @@ static void tell(struct told *told, uint8_t word) {
 
 /* Feeds one piece and answers its question. */
 static void piece(const struct plan *plan, struct told *told, const uint8_t *bytes, size_t length) {
-    static const struct plan enough = {0, 0, 0};
     short_feed(plan, bytes, length);
     uint8_t word = feed(&enough, bytes, length);
     uint64_t taken = taken_count();
@@ -194,9 +208,9 @@ static void piece(const struct plan *plan, struct told *told, const uint8_t *byt
 
 /* Reads a stream to its last event, in pieces of so many bytes at most. */
 static struct told read_stream(const struct plan *plan, const uint8_t *bytes, size_t size, size_t most) {
-    static const struct plan enough = {0, 0, 0};
-    struct told told = {0xcbf29ce484222325u, 0, 0, 0, 0, 0};
+    struct told told = {.digest = 0xcbf29ce484222325u};
     uint32_t seed = plan->cuts + 1u;
+    told.is_asked_for = ask_for(plan->uri, bytes, size);
     must(ouinet_reader_fresh(lent()->state, OUINET_READER_STATE_SIZE) == 0, "a fresh state");
     while (told.place < size && !told.over) {
         size_t rest = size - told.place;
@@ -216,6 +230,7 @@ static void forged(const struct plan *plan, const uint8_t *bytes, size_t size) {
     memcpy(l->state, bytes, OUINET_READER_STATE_SIZE);
     bytes += OUINET_READER_STATE_SIZE;
     size -= OUINET_READER_STATE_SIZE;
+    ask_for(plan->uri, bytes, size);
     for (int call = 0; call < 6; call++) {
         size_t length = size < MOST_PIECE ? size : MOST_PIECE;
         int is_answer = plan->answers >> call & 1;
@@ -239,10 +254,10 @@ static void forged(const struct plan *plan, const uint8_t *bytes, size_t size) {
 }
 
 int LLVMFuzzerTestOneInput(const uint8_t *bytes, size_t size) {
-    if (size < 3) return 0;
-    struct plan plan = {bytes[0], bytes[1], bytes[2]};
-    bytes += 3;
-    size -= 3;
+    if (size < 4) return 0;
+    struct plan plan = {bytes[0], bytes[1], bytes[2], bytes[3]};
+    bytes += 4;
+    size -= 4;
     if (plan.cuts == 255) {
         if (size >= OUINET_READER_STATE_SIZE) forged(&plan, bytes, size);
         return 0;

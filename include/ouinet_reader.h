@@ -12,6 +12,7 @@
  *     block      the block under way, and at the end the trailer
  *     question   the message that a signature is to be verified over
  *     ring       the keys that are trusted (feed alone)
+ *     uri        the URI that was asked for (feed alone)
  *     result     what a call says, OUINET_READER_RESULT_SIZE bytes
  *
  * A buffer is passed as the address of its first byte and its length. An address is never NULL, not even where the length is 0, and
@@ -27,7 +28,7 @@
  *     ouinet_reader_fresh(state, sizeof state);
  *     for each piece of the stream, as it comes:
  *         while bytes of it are left:
- *             word = ouinet_reader_feed(.., piece, left, result, sizeof result);
+ *             word = ouinet_reader_feed(.., ring, ring_len, uri, uri_len, piece, left, result, sizeof result);
  *             go on behind as many bytes as were taken
  *             if word is OUINET_READER_QUESTION:
  *                 verify; word = ouinet_reader_answer(.., good, result, sizeof result);
@@ -72,6 +73,21 @@ extern "C" {
 #define OUINET_READER_RECORD_FIRST 32 /* a number: the first second at which it is trusted */
 #define OUINET_READER_RECORD_LAST 40  /* a number: the last such second */
 
+/* ---- the URI asked for
+ *
+ * A signature says who signed a show, not that it is the one that was wanted. So feed is lent the URI that was asked for: any bytes, of any
+ * length, none included; it is never a cause for OUINET_READER_NO_ROOM. It is read only when the head is judged, that is, by the call that
+ * takes the head's last byte; what other calls are lent is not looked at. The value of the head's X-Ouinet-URI, without the spaces and tabs at
+ * its ends, is compared with it byte by byte: no case is folded, and nothing is trimmed from the URI that is lent, so a line feed left at
+ * its end makes it another one. Where they differ, the head is refused with OUINET_READER_OTHER_URI and nothing is asked. That is tested after
+ * all of OUINET_READER_BAD_HEAD, OUINET_READER_HEAD_RULE and OUINET_READER_BAD_VERSION, and before OUINET_READER_UNTRUSTED. A head without a URI,
+ * or with an empty one, is refused with OUINET_READER_HEAD_RULE, so with an empty URI lent no head is accepted.
+ *
+ * To tell the user which show came: after OUINET_READER_OTHER_URI the whole head stands at the front of the head buffer. It ends with the
+ * first CR LF CR LF there, its text is good, and just one of its lines begins with the name X-Ouinet-URI, in any case, and a colon. Nobody has
+ * verified it, so show it, escaped, and use it for nothing else. ouinet_reader_value gives nothing of a head that was not accepted.
+ */
+
 /* ---- the result of feed, answer and end */
 
 #define OUINET_READER_RESULT_WORD 0       /* a number: the word, the same as is returned */
@@ -106,7 +122,7 @@ extern "C" {
 #define OUINET_READER_NOT_DUE 1       /* feed or end with a question open; answer with none open; any call after a final word */
 #define OUINET_READER_NO_ROOM 2       /* head, block or question buffer too short, or the ring's length wrong; tested before 1 */
 #define OUINET_READER_BAD_HEAD 3      /* head text wrong, longer than 8,192 bytes, over 64 field lines, or a field twice that may come only once */
-#define OUINET_READER_HEAD_RULE 4     /* a rule of heads is broken, other than those of 3, 5 and 12 */
+#define OUINET_READER_HEAD_RULE 4     /* a rule of heads is broken, other than those of 3, 5, 16 and 12 */
 #define OUINET_READER_BAD_VERSION 5   /* the version is there, and is not 4 */
 #define OUINET_READER_BAD_FRAME 6     /* chunk line, end of data or trailer wrong or too long */
 #define OUINET_READER_BAD_SIZE 7      /* a chunk's size is against the block rule */
@@ -115,6 +131,7 @@ extern "C" {
 #define OUINET_READER_BAD_SIGNATURE 10 /* the answer was no */
 #define OUINET_READER_UNFINISHED 11   /* the end came before the stream's */
 #define OUINET_READER_UNTRUSTED 12    /* the key is not in the ring, or not trusted at the time, or the two key ids differ */
+#define OUINET_READER_OTHER_URI 16    /* the head's URI is not the one asked for; tested before 12 */
 
 /* ---- the state
  *
@@ -172,11 +189,12 @@ uint8_t ouinet_reader_fresh(uint8_t *state, size_t state_len);
 
 /*
  * Takes a piece of the stream, of any length: its bytes up to and with the one that decides something, or all of them. Returns the
- * word. Bytes that were not taken are fed again, after the question before them is answered.
+ * word. Bytes that were not taken are fed again, after the question before them is answered. The ring and the URI asked for are read when
+ * the head is judged, and not kept.
  */
 uint8_t ouinet_reader_feed(uint8_t *state, size_t state_len, uint8_t *head, size_t head_len, uint8_t *block, size_t block_len,
-                           uint8_t *question, size_t question_len, const uint8_t *ring, size_t ring_len, const uint8_t *piece,
-                           size_t piece_len, uint8_t *result, size_t result_len);
+                           uint8_t *question, size_t question_len, const uint8_t *ring, size_t ring_len, const uint8_t *uri,
+                           size_t uri_len, const uint8_t *piece, size_t piece_len, uint8_t *result, size_t result_len);
 
 /* Answers the open question: 0 where the signature is not good, anything else where it is. Returns the word. */
 uint8_t ouinet_reader_answer(uint8_t *state, size_t state_len, uint8_t *head, size_t head_len, uint8_t *block, size_t block_len,

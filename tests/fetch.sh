@@ -1,7 +1,7 @@
 #!/usr/bin/env bash
 # Signer, relay and oui-fetch together, with real Ed25519: what is sent is what comes out, however it is cut, with repeated fields too; a stream
 # that is cut off, changed on its way or signed by someone else is refused, and leaves only its verified beginning; where a text went wrong is told
-# and shown.
+# and shown; a show that was not asked for is refused, whoever signed it.
 set -uo pipefail
 shopt -s lastpipe # so that a fetch at the end of a pipe can set its status
 cd "$(dirname "$0")/.."
@@ -20,10 +20,19 @@ expect() {
     check "$@" || sed 's/^/  said: /' said 2>/dev/null | tail -3
 }
 
-# fetch WORDS..: oui-fetch with the ring and the file `got`; sets `status`, and leaves its last words in `said`.
+# fetch WORDS..: oui-fetch with the ring and the file `got`, for the show of the URI in `asked`; sets `status`, and leaves its last words in
+# `said`.
+asked=https://example.com/show
 fetch() {
     rm -f got
-    timeout 20 oui-fetch --ring ring -o got "$@" 2>said
+    timeout 20 oui-fetch --ring ring --uri "$asked" -o got "$@" 2>said
+    status=$?
+}
+
+# fetch_any WORDS..: the same for whatever show comes.
+fetch_any() {
+    rm -f got
+    timeout 20 oui-fetch --ring ring --any-uri -o got "$@" 2>said
     status=$?
 }
 
@@ -58,13 +67,26 @@ oui-sign key key >again 2>said
 expect 'a key that is there is not made anew' test $? -eq 2 -a ! -s again
 expect 'it has the same line' test "$(oui-sign ring key)" = "$(cat ring)"
 
-for wrong in '--block-size 0' '--block-size 65537' '--id a.b' '--ts 1000000000000' '--uri ' '--more 1'; do
+for wrong in '--block-size 0' '--block-size 65537' '--id a.b' '--ts 1000000000000' '--more 1'; do
     oui-sign sign key ring ${wrong% *} "${wrong##* }" -o none 2>said
     expect "oui-sign $wrong" test $? -eq 2 -a ! -e none
 done
 
-oui-sign sign key ring --uri $'show\r\nA: b' -o none 2>said
-expect 'a line end in a value' test $? -eq 2 -a ! -e none -a "$(cat said)" = "oui-sign: --uri: \\r at offset 4 may not stand in a field's value"
+# no_uri URI WORDS: whether a URI is not taken, with just these words, and nothing is written.
+no_uri() {
+    oui-sign sign key ring --uri "$1" -o none 2>said
+    [ $? -eq 2 ] && [ ! -e none ] && [ "$(cat said)" = "oui-sign: $2" ]
+}
+
+expect 'an empty URI' no_uri '' '--uri must not be empty: no reader takes a head without a URI'
+for blank in ' ' $'\t' ' show' 'show ' $'show\t' ' show '; do
+    expect "blanks around a URI: '$blank'" no_uri "$blank" "--uri: a field's value has no blanks at its ends"
+done
+expect 'a line end in a URI' no_uri $'show\r\nA: b' "--uri: \\r at offset 4 may not stand in a field's value"
+expect 'a line feed at the end of a URI' no_uri $'show\n' "--uri: \\n at offset 4 may not stand in a field's value"
+expect 'a control character in a URI' no_uri $'a\x1bb' "--uri: \\x1b at offset 1 may not stand in a field's value"
+expect 'a deletion in a URI' no_uri $'\x7f' "--uri: \\x7f at offset 0 may not stand in a field's value"
+expect 'a URI that is too long' no_uri "$(printf '%08000d' 0)" "the head has 8634 bytes, and 8192 are the most"
 oui-sign sign key ring --type 'text/plain ' -o none 2>said
 expect 'a blank at the end of a value' test $? -eq 2 -a ! -e none -a "$(cat said)" = "oui-sign: --type: a field's value has no blanks at its ends"
 oui-sign sign key ring --header $'Via: \xe9' -o none 2>said
@@ -145,11 +167,12 @@ expect 'values joined without a space' reached 1 "$wrong" '/^Via: 1.1 second/d;s
 
 # By other ways
 head -c 300000 /dev/urandom >show
-oui-sign sign key - -o stream --uri 'https://example.com/a "show"' --id me-1 --ts 1700000000 --type video/webm <show
+asked='https://example.com/a "show"'
+oui-sign sign key - -o stream --uri "$asked" --id me-1 --ts 1700000000 --type video/webm <show
 expect 'the signer reads standard input' test $? -eq 0
 fetch stream
 expect 'a stream in a file' ended 0 'closed: 300000 bytes in 5 blocks'
-timeout 20 oui-fetch --ring ring <stream 2>said | cmp -s - show
+timeout 20 oui-fetch --ring ring --uri "$asked" <stream 2>said | cmp -s - show
 expect 'a body to standard output' test $? -eq 0
 fetch --quiet stream
 expect 'quiet' test "$status" -eq 0 -a ! -s said
@@ -183,10 +206,15 @@ for place in $((start + 10)) $((start + 30000)) $((start + 65536)) $((start + 80
     expect "changed at $place" ended 1 'refused 10: a signature is wrong'
     expect "a beginning before $place" is_beginning
 done
-uri=$(grep -abo 'example.com/a' stream | head -n 1 | cut -d : -f 1)
-oui-relay --change "$uri" <stream | fetch
+type=$(grep -abo 'video/webm' stream | head -n 1 | cut -d : -f 1)
+oui-relay --change "$type" <stream | fetch
 expect 'changed in the head' ended 1 'refused 10: a signature is wrong'
 expect 'nothing comes out' test ! -s got
+uri=$(grep -abo 'example.com/a' stream | head -n 1 | cut -d : -f 1)
+oui-relay --change "$uri" <stream | fetch
+expect 'changed in its URI' ended 1 \
+    "refused 16: this is another show: asked for \`$asked\`, got \`https://dxample.com/a \"show\"\`; nothing was verified"
+expect 'nothing comes out of that' test ! -s got
 # A size of 0: what follows is taken for the trailer
 oui-relay --change "$start" <stream | fetch
 expect 'changed in a size' test "$status" -eq 1
@@ -194,6 +222,7 @@ expect 'in words' grep -q "^oui-fetch: refused 6: the trailer, from offset $((st
 expect 'nothing of its bytes comes out' test ! -s got
 
 # Where a text went wrong
+asked=https://example.com/show
 printf 'Hello world!' >show
 oui-sign sign key show -o good --block-size 5 --id me-1 --ts 1700000000
 uri='X-Ouinet-URI: https://example.com/show'
@@ -295,7 +324,127 @@ for front in '' 'HTTP/1.1 200 OK\r\n' 'HTTP/1.1 200 OK\r\nA: b\r\n'; do
     done
 done
 
+# Right signature, wrong show: two skies signed by one key
+south=https://example.com/sky/south
+north=https://example.com/sky/north
+for sky in south north; do
+    head -c 5000 /dev/urandom >$sky
+    oui-sign sign key $sky -o $sky.oui --uri "${!sky}" --block-size 1000 --id "$sky" --ts 1700000000
+    expect "the $sky is signed" test $? -eq 0
+    asked=${!sky}
+    for most in 1 30 6000; do
+        oui-relay --seed "$most" --most "$most" <$sky.oui | fetch
+        expect "the $sky, asked for, in pieces of $most at most" ended 0 'closed: 5000 bytes in 5 blocks, each verified'
+        expect "the same $sky in pieces of $most at most" cmp -s $sky got
+    done
+done
+
+# mixed_up ASKED GOT: each is asked for, and the other one comes.
+mixed_up() {
+    local sentence="this is another show: asked for \`${!1}\`, got \`${!2}\`"
+    asked=${!1}
+    for most in 1 30 6000; do
+        oui-relay --seed "$most" --most "$most" <"$2.oui" | fetch
+        expect "the $2 for the $1, in pieces of $most at most" told "refused 16: $sentence; nothing was verified"
+        expect "no byte of the $2 in pieces of $most at most" test -e got -a ! -s got
+    done
+    timeout 20 oui-fetch --ring ring --uri "$asked" "$2.oui" 2>said >out
+    expect "no byte of the $2 to standard output" test $? -eq 1 -a ! -s out
+    fetch --json "$2.oui" >events
+    expect "the $2 for the $1 as JSON" test "$(cat events)" = '{"event":"refused","number":16,"meaning":"this is another show than the one '\
+'asked for: the head has another URI","at":null,"stream_offset":null,"asked":"'"${!1}"'","got":"'"${!2}"'"}'
+    fetch --quiet "$2.oui"
+    expect "quiet about the $2" test "$status" -eq 1 -a ! -s said -a ! -s got
+}
+mixed_up south north
+mixed_up north south
+head -c 3000000 /dev/zero >large
+oui-sign sign key large --uri "$north" 2>broken | fetch
+expect 'the sender of another show is not to blame' test "${PIPESTATUS[0]}" -eq 0 -a ! -s broken
+
+# almost URI SHOWN: what is almost the southern URI is another one's, and shown so.
+almost() {
+    asked=$1
+    fetch south.oui
+    told "refused 16: this is another show: asked for \`$2\`, got \`$south\`; nothing was verified" && [ ! -s got ]
+}
+expect 'in capital letters' almost https://example.com/sky/SOUTH https://example.com/sky/SOUTH
+expect 'a beginning' almost https://example.com/sky/sout https://example.com/sky/sout
+expect 'a byte more' almost https://example.com/sky/south/ https://example.com/sky/south/
+expect 'a blank more' almost 'https://example.com/sky/south ' 'https://example.com/sky/south '
+expect 'a line feed more' almost $'https://example.com/sky/south\n' 'https://example.com/sky/south\n'
+expect 'bytes that are no text' almost $'\x1b[2J\xff\\' '\x1b[2J\xff\\'
+long=$(printf '%0300d' 0)
+oui-sign sign key south -o long.oui --uri "https://example.com/$long/south/"
+asked=https://example.com/$long/north
+fetch long.oui
+expect 'long ones that differ late' told \
+    "refused 16: this is another show: asked for \`...${long:0:39}/north\`, got \`...${long:0:39}/south/\`; nothing was verified"
+asked=https://example.com/s$'\xc3\xbc'd
+oui-sign sign key south --uri "$asked" --block-size 1000 | fetch
+expect 'one with bytes beyond ASCII' ended 0 'closed: 5000 bytes in 5 blocks'
+asked=https://example.com/su$'\xcc\x88'd
+oui-sign sign key south --uri https://example.com/s$'\xc3\xbc'd | fetch
+expect 'the same written otherwise' told \
+    'refused 16: this is another show: asked for `https://example.com/su\xcc\x88d`, got `https://example.com/s\xc3\xbcd`; nothing was verified'
+
+# By the user's choice, any
+taken='any URI was taken (--any-uri), and the head gives'
+for sky in south north; do
+    for most in 1 30 6000; do
+        oui-relay --seed "$most" --most "$most" <$sky.oui | fetch_any
+        expect "the $sky, if any, in pieces of $most at most" ended 0 "closed: 5000 bytes in 5 blocks, each verified; $taken \`${!sky}\`"
+        expect "the same $sky, if any, in pieces of $most at most" cmp -s $sky got
+    done
+    fetch_any --json $sky.oui >events
+    expect "the $sky, if any, as JSON" test "$(tail -n 1 events)" = '{"event":"closed","total":5000,"any_uri":true}'
+    expect "its head as JSON" grep -qFx '{"event":"head","status":200,"uri":"'"${!sky}"'"}' events
+    fetch_any --quiet $sky.oui
+    expect "quiet about the $sky, if any" test "$status" -eq 0 -a ! -s said
+done
+
+# any_of STATUS PATTERN SED..: how the southern stream ends, if any will do, with an edit of its head.
+any_of() {
+    local status_due=$1 words=$2
+    shift 2
+    { LC_ALL=C sed '/^\r/q' south.oui | LC_ALL=C sed "$@"; LC_ALL=C sed '1,/^\r/d' south.oui; } >stream
+    oui-relay --most 60 <stream | fetch_any
+    [ "$status" -eq "$status_due" ] && [[ $(head -n 1 said) == oui-fetch:\ $words ]]
+}
+good='closed: 5000 bytes in 5 blocks, each verified'
+none='nothing was verified; any URI was taken (--any-uri)'
+expect 'its name and blanks otherwise' any_of 0 "$good; $taken \`$south\`" 's/^X-Ouinet-URI: /x-oUINET-uri:\t /;s/south\r/south \t\r/'
+expect 'its line last' any_of 0 "$good; $taken \`$south\`" '/^X-Ouinet-URI/{h;d};/^Transfer-Encoding/G'
+expect 'another name like it first' any_of 0 "$good; $taken \`$south\`" '2s/^/X-Ouinet-URI2: u\r\n/'
+expect 'a URI that was changed' any_of 1 "refused 10: a signature is wrong*; $taken \`https://example.com/sky/west\`" 's/south\r/west\r/'
+expect 'no URI at all' any_of 1 "refused 4: *; $none" '/^X-Ouinet-URI/d'
+expect 'an empty one' any_of 1 "refused 4: *; $none" 's/^X-Ouinet-URI:.*/X-Ouinet-URI: \t\r/'
+expect 'two of them' any_of 1 'refused 3: the head has X-Ouinet-URI twice, *' '/^X-Ouinet-URI/p'
+expect 'a text that is wrong' any_of 1 "refused 3: the text of the head goes wrong at offset 50 of the stream (line 3, column 13); $none" \
+    's/^X-Ouinet-URI:/X-Ouinet-URI :/'
+expect 'its line, with a mark' test "$(tail -n 1 said)" = '                ^'
+for length in 0 1 500; do
+    head -c "$length" south.oui | fetch_any
+    expect "$length bytes, if any" ended 1 "refused 11: the stream stops before its end; $none"
+done
+head -c 9000 /dev/zero | tr '\0' x | fetch_any
+expect 'no head, if any' test "$status" -eq 1 -a "$(head -n 1 said)" = "oui-fetch: refused 3: the head has no end within 8,192 bytes; $none"
+pad=$(printf '%07500d' 0)
+oui-sign sign key south --uri "$south" --block-size 1000 --header "Via: $pad" | LC_ALL=C sed '/^X-Ouinet-URI/{h;d};/^Via: 0/G' |
+    oui-relay --most 3000 | fetch_any
+expect 'at the end of a long head' ended 0 "$good; $taken \`$south\`"
+oui-sign key stranger >/dev/null
+oui-sign sign stranger south --uri "$south" -o strange.oui
+fetch_any --json strange.oui >events
+expect 'a stranger, if any' ended 1 'refused 12: the key is not trusted'
+expect 'as JSON' test "$(cat events)" = '{"event":"refused","number":12,"meaning":"the key is not trusted: no record of the ring has it at the '\
+'stream'"'"'s time","at":null,"stream_offset":null,"any_uri":true}'
+asked=$north
+fetch strange.oui
+expect 'a stranger with another show' ended 1 'refused 16: this is another show'
+
 # Signed by someone else, or at another time
+asked=https://example.com/show
 oui-sign sign key show -o stream --ts 1700000000
 oui-sign key other >ring
 fetch stream
@@ -314,28 +463,49 @@ expect 'a key put in place of the signer'"'"'s' ended 1 'refused 10: a signature
 # Files and words that are no good leave the target alone
 echo kept >kept
 { cat ring; echo 'key 1 2'; } >bad
-timeout 20 oui-fetch --ring bad -o kept stream 2>said
+timeout 20 oui-fetch --ring bad --uri "$asked" -o kept stream 2>said
 expect 'a ring that is none' test $? -eq 2 -a "$(cat said)" = 'oui-fetch: bad: line 3: the key is not 44 characters of base64 for 32 bytes'
-timeout 20 oui-fetch --ring missing -o kept stream 2>said
+timeout 20 oui-fetch --ring missing --uri "$asked" -o kept stream 2>said
 expect 'no ring' test $? -eq 2 -a "$(cat said)" = 'oui-fetch: missing: No such file or directory (os error 2)'
-timeout 20 oui-fetch --ring ring -o kept missing 2>said
-expect 'no stream' test $? -eq 2 -a "$(cat said)" = 'oui-fetch: missing: No such file or directory (os error 2)'
-timeout 20 oui-fetch -o kept stream 2>said
+for wanted in '--uri u' --any-uri; do
+    timeout 20 oui-fetch --ring ring $wanted -o kept missing 2>said
+    expect "no stream, $wanted" test $? -eq 2 -a "$(cat said)" = 'oui-fetch: missing: No such file or directory (os error 2)'
+done
+timeout 20 oui-fetch --ring ring --any-uri -o kept . 2>said
+expect 'a folder for a stream' test $? -eq 2 -a "$(cat said)" = 'oui-fetch: .: Is a directory (os error 21)'
+
+# no_show WORDS OPTION..: whether these words about the show that is asked for are not taken, with this complaint.
+no_show() {
+    local words=$1
+    shift
+    timeout 20 oui-fetch --ring ring -o kept "$@" stream 2>said
+    [ $? -eq 2 ] && [ "$(cat said)" = "oui-fetch: $words" ]
+}
+
+expect 'neither a URI nor any' no_show 'which show is asked for? --uri URI, or --any-uri for whatever comes; see oui-fetch --help'
+expect 'a URI and any' no_show 'either --uri or --any-uri, not both; see oui-fetch --help' --any-uri --uri "$asked"
+expect 'any and a URI' no_show 'either --uri or --any-uri, not both; see oui-fetch --help' --uri "$asked" --any-uri
+expect 'an empty URI to ask for' no_show '--uri is empty, and no show has an empty URI' --uri ''
+expect 'two URIs' no_show '--uri is given twice; see oui-fetch --help' --uri "$asked" --uri "$asked"
+timeout 20 oui-fetch --ring ring -o kept stream --uri 2>said
+expect 'a URI that is left out' test $? -eq 2 -a "$(cat said)" = 'oui-fetch: --uri needs a value; see oui-fetch --help'
+timeout 20 oui-fetch --uri "$asked" -o kept stream 2>said
 expect 'no ring named' test $? -eq 2
-timeout 20 oui-fetch --ring ring --json stream 2>said
+timeout 20 oui-fetch --ring ring --uri "$asked" --json stream 2>said
 expect 'JSON and the body to one place' test $? -eq 2 -a "$(cat said)" = 'oui-fetch: with --json the body needs a file: -o BODY'
 expect 'the target is left alone' test "$(cat kept)" = kept
 cp stream same
-timeout 20 oui-fetch --ring ring -o same same 2>said
+timeout 20 oui-fetch --ring ring --uri "$asked" -o same same 2>said
 expect 'a body over its own stream' test $? -eq 2
 expect 'the stream is left alone' cmp -s stream same
-timeout 20 oui-fetch --ring ring -o /dev/full stream 2>said
+timeout 20 oui-fetch --ring ring --uri "$asked" -o /dev/full stream 2>said
 expect 'a body that takes nothing' test $? -eq 2 -a "$(cat said)" = 'oui-fetch: /dev/full: No space left on device (os error 28)'
 oui-fetch --help >said
 expect 'help' grep -q '^usage: oui-fetch' said
 
 # The example of the small program, whose answers are given there
 cp "$top"/crates/ouiread/data/ring ring
+asked=$(cat "$top"/crates/ouiread/data/uri)
 printf 'Hello world!' >show
 fetch "$top"/crates/ouiread/data/stream
 expect 'the built-in example' ended 0 'closed: 12 bytes in 3 blocks'

@@ -1,8 +1,8 @@
 /*
  * include/ouinet_reader.h and the library behind it, from C: the example stream of crates/ouiread/data goes through in pieces of one
  * size, and what is said must be the lines of crates/ouiread/stdout; then wrong texts, and the place that is told of each; then heads with repeated
- * fields; then the sizes that the header names, each beside one that is one byte short; then forged states, in buffers that are longer than named
- * and marked beyond.
+ * fields; then URIs that were asked for and are not the head's; then the sizes that the header names, each beside one that is one byte short; then
+ * forged states, in buffers that are longer than named and marked beyond.
  * tests/header.sh builds and runs it. Its last line is 'N passed, M failed'.
  */
 #include "ouinet_reader.h"
@@ -16,6 +16,9 @@ enum { STATE = OUINET_READER_STATE_SIZE, RESULT = OUINET_READER_RESULT_SIZE, REC
 static uint8_t state[STATE], result[RESULT];
 static uint8_t head[OUINET_READER_HEAD_SIZE], block[OUINET_READER_BLOCK_SIZE], question[OUINET_READER_QUESTION_SIZE];
 static uint8_t ring[RECORD];
+/* What feed is lent: so much of the ring, and the URI asked for. */
+static size_t ring_length = RECORD, uri_length;
+static const uint8_t *uri;
 static int passed, failed;
 
 static void expect(const char *what, int good) {
@@ -65,8 +68,13 @@ static void read_ring(const char *line) {
 }
 
 static uint8_t feed(const uint8_t *piece, size_t length) {
-    return ouinet_reader_feed(state, STATE, head, sizeof head, block, sizeof block, question, sizeof question, ring, RECORD, piece,
-                              length, result, RESULT);
+    return ouinet_reader_feed(state, STATE, head, sizeof head, block, sizeof block, question, sizeof question, ring, ring_length, uri,
+                              uri_length, piece, length, result, RESULT);
+}
+
+static void ask_for(const char *text, size_t length) {
+    uri = (const uint8_t *)text;
+    uri_length = length;
 }
 
 static uint8_t answer(uint8_t good) {
@@ -333,8 +341,108 @@ static void count_forged_lines(const char *stream) {
     expect("however long it is", line_count("vary") == 0 && line_count("date") == 0);
 }
 
+/* ---- the URI asked for */
+
+/* A whole head in pieces, asked for by this URI: the refusal's number, or 0 where it is asked about. */
+static unsigned refused_head(const char *text, size_t length, const char *asked, size_t piece) {
+    char what[160];
+    ask_for(asked, strlen(asked));
+    if (is_asked(text, length, piece))
+        return 0;
+    sprintf(what, "asked for by '%.40s', all of the head was taken, and it is refused", asked);
+    expect(what, number(result + OUINET_READER_RESULT_WORD) == OUINET_READER_REFUSED && number(state) == 9);
+    return (unsigned)number(result + OUINET_READER_RESULT_FIRST);
+}
+
+/* Other URIs than the example's, most of them almost the same. */
+static void ask_for_others(const char *stream, const char *own, size_t piece) {
+    static const char *const others[] = {"", "u", "https://example.com/hell", "https://example.com/hello/", "https://example.com/Hello",
+                                         "HTTPS://EXAMPLE.COM/HELLO", "ttps://example.com/hello", " https://example.com/hello",
+                                         "https://example.com/hello ", "https://example.com/hello\t", "https://example.com/hello\n",
+                                         "https://example.com/hello\r\n", "https://example.com/iello", "X-Ouinet-URI: https://example.com/hello"};
+    size_t length = (size_t)(strstr(stream, "\r\n\r\n") - stream) + 4, i;
+    uint8_t before[OUINET_READER_QUESTION_SIZE];
+    expect("its own URI", !strcmp(own, "https://example.com/hello") && refused_head(stream, length, own, piece) == 0);
+    memset(question, 'q', sizeof question);
+    memset(block, 'b', sizeof block);
+    memcpy(before, question, sizeof before);
+    for (i = 0; i < sizeof others / sizeof *others; i++) {
+        expect("another URI is refused with 16", refused_head(stream, length, others[i], piece) == OUINET_READER_OTHER_URI && has_no_place());
+        expect("the state says so", number(state + 8) == OUINET_READER_OTHER_URI);
+        expect("the head stays, for a message", !memcmp(head, stream, length));
+        expect("and nothing of it is handed out", line_count("x-ouinet-uri") == 0 && ouinet_reader_block(state, STATE, block, sizeof block) == 0);
+        feed((const uint8_t *)stream, length);
+        expect("it is final", number(result + OUINET_READER_RESULT_FIRST) == OUINET_READER_NOT_DUE);
+    }
+    expect("nothing was asked, and no block touched", !memcmp(question, before, sizeof before) && block[0] == 'b' && block[sizeof block - 1] == 'b');
+}
+
+/* A million bytes that begin with the URI. */
+static void ask_for_a_million(const char *stream, const char *own, size_t piece) {
+    enum { MILLION = 1000000 };
+    static char asked[MILLION];
+    size_t length = (size_t)(strstr(stream, "\r\n\r\n") - stream) + 4, own_length = strlen(own);
+    memset(asked, 'x', MILLION);
+    memcpy(asked, own, own_length);
+    ask_for(asked, MILLION);
+    expect("a million bytes are another URI", !is_asked(stream, length, piece));
+    expect("and refused so", number(result + OUINET_READER_RESULT_FIRST) == OUINET_READER_OTHER_URI);
+    ask_for(asked, own_length);
+    expect("their first bytes are the right one", is_asked(stream, length, piece));
+}
+
+/* Refusals 3, 4 and 5 go before 16, and 12 after it. */
+static void ask_in_order(const char *stream, const char *own, size_t piece) {
+    static const struct {
+        const char *from, *to;
+        unsigned refusal;
+    } edits[] = {{"X-Ouinet-URI:", "X-Ouinet-URI :", OUINET_READER_BAD_HEAD},
+                 {"X-Ouinet-URI:", "X-Ouinet-URI: u\r\nX-Ouinet-URI:", OUINET_READER_BAD_HEAD},
+                 {"Version: 4", "Version: 5", OUINET_READER_BAD_VERSION},
+                 {"X-Ouinet-Version: 4\r\n", "", OUINET_READER_HEAD_RULE},
+                 {"200 OK", "404 OK", OUINET_READER_HEAD_RULE},
+                 {"X-Ouinet-URI: https://example.com/hello", "X-Ouinet-URI: \t", OUINET_READER_HEAD_RULE},
+                 {"X-Ouinet-URI:", "X-Ouinet-URL:", OUINET_READER_HEAD_RULE},
+                 {"content-type\"", "content-type nowhere\"", OUINET_READER_HEAD_RULE}};
+    const char *asked[] = {own, "https://example.com/other", ""};
+    size_t length = (size_t)(strstr(stream, "\r\n\r\n") - stream) + 4, i, j;
+    char text[4096];
+    for (i = 0; i < sizeof edits / sizeof *edits; i++) {
+        const char *at = strstr(stream, edits[i].from), *after = at + strlen(edits[i].from);
+        size_t edited = (size_t)sprintf(text, "%.*s%s%.*s", (int)(at - stream), stream, edits[i].to, (int)(stream + length - after), after);
+        for (j = 0; j < 3; j++)
+            expect("what else is wrong goes first", refused_head(text, edited, asked[j], piece) == edits[i].refusal);
+    }
+    ring_length = 0;
+    expect("an untrusted key", refused_head(stream, length, own, piece) == OUINET_READER_UNTRUSTED);
+    expect("another URI goes before it", refused_head(stream, length, asked[1], piece) == OUINET_READER_OTHER_URI);
+    ring_length = RECORD;
+    ask_for(own, strlen(own));
+}
+
+/* Only the URI that comes with the head's last byte is looked at. */
+static void ask_at_the_right_time(const char *stream, size_t length, const char *own) {
+    const uint8_t *bytes = (const uint8_t *)stream;
+    size_t at = (size_t)(strstr(stream, "\r\n\r\n") - stream) + 4;
+    uint8_t word = OUINET_READER_MORE;
+    ouinet_reader_fresh(state, STATE);
+    ask_for("x", 1);
+    expect("another URI before", feed(bytes, at - 1) == OUINET_READER_MORE);
+    ask_for(own, strlen(own));
+    expect("the right one at the head's end", feed(bytes + at - 1, 1) == OUINET_READER_QUESTION && answer(1) == OUINET_READER_HEAD);
+    ask_for("", 0);
+    while (at < length && word != OUINET_READER_REFUSED) {
+        word = feed(bytes + at, length - at);
+        at += (size_t)number(result + OUINET_READER_RESULT_TAKEN);
+        if (word == OUINET_READER_QUESTION)
+            answer(1);
+    }
+    expect("none after, up to the end", word == OUINET_READER_CLOSED && at == length);
+    ask_for(own, strlen(own));
+}
+
 static uint8_t feed_with(size_t s, size_t h, size_t b, size_t q, const uint8_t *keys, size_t k, size_t r) {
-    return ouinet_reader_feed(state, s, head, h, block, b, question, q, keys, k, ring, 1, result, r);
+    return ouinet_reader_feed(state, s, head, h, block, b, question, q, keys, k, uri, uri_length, ring, 1, result, r);
 }
 
 static int is_refused(uint8_t word, unsigned refusal) {
@@ -403,7 +511,7 @@ static void forge(uint64_t phase, uint64_t first, uint64_t second, uint8_t mark)
 
 static uint8_t long_feed(const char *piece) {
     return ouinet_reader_feed(state, STATE, long_head, sizeof long_head, long_block, sizeof long_block, long_question, sizeof long_question, ring,
-                              RECORD, (const uint8_t *)piece, strlen(piece), result, RESULT);
+                              RECORD, uri, uri_length, (const uint8_t *)piece, strlen(piece), result, RESULT);
 }
 
 static uint8_t long_answer(uint8_t good) {
@@ -473,26 +581,32 @@ static void defy_forged_parts(void) {
 }
 
 int main(int count, char **arguments) {
-    char stream[4096], keys[4096], answers[4096], expected[4096], said[4096], body[4096], one[128] = {0}, other[128] = {0};
-    size_t length;
-    if (count != 6) {
-        fprintf(stderr, "usage: header STREAM RING ANSWERS EXPECTED PIECE\n");
+    char stream[4096], keys[4096], answers[4096], expected[4096], said[4096], body[4096], own[4096], one[128] = {0}, other[128] = {0};
+    size_t length, piece;
+    if (count != 7) {
+        fprintf(stderr, "usage: header STREAM RING URI ANSWERS EXPECTED PIECE\n");
         return 1;
     }
     length = contents(arguments[1], stream, sizeof stream);
     contents(arguments[2], keys, sizeof keys);
-    contents(arguments[3], answers, sizeof answers);
-    contents(arguments[4], expected, sizeof expected);
+    ask_for(own, contents(arguments[3], own, sizeof own));
+    contents(arguments[4], answers, sizeof answers);
+    contents(arguments[5], expected, sizeof expected);
+    piece = (size_t)atol(arguments[6]);
     read_ring(keys);
-    sit((const uint8_t *)stream, length, answers, (size_t)atol(arguments[5]), said, body);
+    sit((const uint8_t *)stream, length, answers, piece, said, body);
     expect("the nine lines", !strcmp(said, expected));
     expect("the body", !strcmp(body, "Hello world!"));
     look_up_values();
     defy_forged_parts();
     look_inside((const uint8_t *)stream, length);
-    find_places(stream, (size_t)atol(arguments[5]));
-    count_lines(stream, (size_t)atol(arguments[5]));
+    find_places(stream, piece);
+    count_lines(stream, piece);
     count_forged_lines(stream);
+    ask_for_others(stream, own, piece);
+    ask_for_a_million(stream, own, piece);
+    ask_in_order(stream, own, piece);
+    ask_at_the_right_time(stream, length, own);
     measure();
     defy_forged_calls(0xa5);
     ask_of_forged_block(0xa5, one);

@@ -31,7 +31,7 @@ fi
 
 data=crates/ouiread/data
 for piece in 1 4096; do
-    last=$("$work/header" "$data/stream" "$data/ring" "$data/answers" crates/ouiread/stdout "$piece" | tee /dev/stderr | tail -n 1)
+    last=$("$work/header" "$data/stream" "$data/ring" "$data/uri" "$data/answers" crates/ouiread/stdout "$piece" | tee /dev/stderr | tail -n 1)
     add "$last" || echo "FAILED: pieces of $piece: the program ended without its count"
 done
 

@@ -24,7 +24,7 @@ through() {
     mkfifo "$work/stream"
     "$streams" long-files "$bytes" "$work" || return 1
     exec 3<>"$work/stream"
-    target/bin/ouiread "$work/stream" "$work/ring" "$work/answers" "$work/cuts" "$work/body" >"$work/events" 3>&- &
+    target/bin/ouiread "$work/stream" "$work/ring" "$work/answers" "$work/cuts" "$work/body" --uri "$work/uri" >"$work/events" 3>&- &
     reader=$!
     timeout 20 "$streams" long "$bytes" | timeout 20 head -c -1 >&3
     space=$(peak "$reader" VmPeak)

@@ -28,12 +28,17 @@ wrote() {
     cmp -s "$1" out && [ "$(cat err)" = "$2" ] && [ "$(wc -l <err)" -eq "$([ -z "$2" ] && echo 0 || echo 1)" ]
 }
 
-# run ARGUMENTS..: ouiread, with what it writes in out and err.
-run() {
+# bare ARGUMENTS..: ouiread, with what it writes in out and err.
+bare() {
     timeout 20 "$ouiread" "$@" >out 2>err
 }
 
-usage='usage: ouiread STREAM RING ANSWERS [CUTS [BODY]] [--tally] [--where]'
+# run ARGUMENTS..: the same, asked for by the example's URI.
+run() {
+    bare "$@" --uri uri
+}
+
+usage='usage: ouiread STREAM RING ANSWERS [CUTS [BODY]] --uri FILE [--tally] [--where]'
 run stream ring
 expect 'two arguments' nothing "$usage"
 run stream ring answers cuts body more
@@ -51,6 +56,112 @@ run stream ring answers --where cuts
 expect 'an option before a file' nothing "$usage"
 run --where stream ring answers
 expect 'an option before all files' nothing "$usage"
+
+# The URI asked for
+bare stream ring answers
+expect 'no URI' nothing "$usage"
+bare stream ring answers cuts body --where --tally
+expect 'no URI, with other options' nothing "$usage"
+bare stream ring answers --uri
+expect 'a URI without its file' nothing "$usage"
+bare stream ring answers --tally --uri
+expect 'a URI without its file, after another option' nothing "$usage"
+bare stream ring answers --uri uri --uri uri
+expect 'a URI twice' nothing "$usage"
+bare stream ring answers --uri uri --where --uri uri
+expect 'a URI twice, with another option between' nothing "$usage"
+bare stream ring answers --uri uri cuts
+expect 'a URI before a file' nothing "$usage"
+bare --uri uri stream ring answers
+expect 'a URI before all files' nothing "$usage"
+bare stream ring --uri uri
+expect 'a URI and too few files' nothing "$usage"
+{ cat nine; echo 'tally blocks 3 bytes 12 closed 1 refused 0'; } >counted
+for words in '--uri uri --where' '--where --uri uri'; do
+    bare stream ring answers $words
+    expect "$words" nine ''
+done
+for words in '--uri uri --tally' '--tally --uri uri' '--where --uri uri --tally' '--tally --where --uri uri' '--uri uri --tally --where'; do
+    bare stream ring answers $words
+    expect "$words" counted ''
+done
+for name in --tally --uri --where -- -; do
+    cp uri ./"$name"
+    bare stream ring answers --uri "$name"
+    expect "a URI in a file called $name" nine ''
+done
+bare stream ring answers --uri --where --where
+expect 'a file called as the option after it' nine ''
+rm -- --tally --uri --where -- -
+for lack in 'missing: No such file or directory' 'folder: Is a directory' 'unreadable: cannot be read'; do
+    bare stream ring answers --uri "${lack%%:*}"
+    expect "URI ${lack%%:*}" nothing "$lack"
+done
+timeout 20 cat uri | bare stream ring answers --uri /dev/stdin
+expect 'a URI from standard input' nine ''
+
+echo 'refused 16' >other
+# another NAME ASKED: the URI in the file `asked` is refused, and told in these words of it.
+another() {
+    bare stream ring answers --uri asked
+    expect "asked for $1" other "this is another show: asked for \`$2\`, got \`https://example.com/hello\`"
+}
+for asked in https://example.com/other https://example.com/hell https://example.com/hello/ https://example.com/Hello 'https://example.com/hello ' \
+    ' https://example.com/hello' u ''; do
+    printf '%s' "$asked" >asked
+    another "'$asked'" "$asked"
+done
+
+# told_of NAME: the same of a URI that is shown in some other way, in one printable line.
+told_of() {
+    local shown
+    bare stream ring answers --uri asked
+    shown=$(cat err)
+    check "asked for $1: refused" cmp -s other out
+    check "asked for $1: told" test "$(wc -l <err)" -eq 1
+    check "asked for $1: in these words" eval '[[ $shown == "this is another show: asked for \`"*"\`, got \`https://example.com/hello\`" ]]'
+    check "asked for $1: printable" eval '! LC_ALL=C grep -q "[^ -~]" err'
+    check "asked for $1: short" test "$(wc -c <err)" -lt 5000
+}
+{ cat uri; echo; } >asked
+told_of 'it and a line feed'
+check 'a line feed at the end is shown' eval '[[ $(cat err) != *"\`https://example.com/hello\`,"* ]]'
+printf 'https://example.com/hello\r\n' >asked
+told_of 'it and CR LF'
+printf '\033[2J\0\377' >asked
+told_of 'control bytes'
+{ cat uri; head -c 1000000 /dev/zero | tr '\0' x; } >asked
+told_of 'a million bytes'
+head -c 1000000 /dev/zero >asked
+told_of 'a million zero bytes'
+printf 'refused 16\ntally blocks 0 bytes 0 closed 0 refused 1\n' >counted
+printf north >asked
+bare stream ring nothing --tally --uri asked --where
+expect 'another show in the tally' counted 'this is another show: asked for `north`, got `https://example.com/hello`'
+
+# order NAME REFUSAL: what the stream in `wrong` is refused with where another URI was asked for, and so no more is said.
+order() {
+    echo "refused $2" >refused
+    bare wrong ring answers --uri asked
+    expect "another URI and $1" refused ''
+}
+sed 's/^X-Ouinet-Version: 4/X-Ouinet-Version: 5/' stream >wrong
+order 'version 5' 5
+sed 's/ content-type"/ content-type nowhere"/' stream >wrong
+order 'a bad list' 4
+sed 's/^X-Ouinet-URI: .*\r/X-Ouinet-URI:\r/' stream >wrong
+order 'an empty one in the head' 4
+sed '/^X-Ouinet-URI: /p' stream >wrong
+order 'two in the head' 3
+sed 's/^X-Ouinet-URI: .*\r/X-Ouinet-URI: \t north \t\r/' stream >wrong
+bare wrong ring nothing --uri asked
+check 'blanks in the head do not count' eval '[[ $(cat out) == "question "* ]] && [ ! -s err ]'
+: >no-ring
+bare stream no-ring answers --uri uri
+echo 'refused 12' >refused
+expect 'an untrusted key' refused ''
+bare stream no-ring answers --uri asked
+expect 'an untrusted key and another URI' other 'this is another show: asked for `north`, got `https://example.com/hello`'
 
 echo 5 >cuts
 { cat nine; echo 'tally blocks 3 bytes 12 closed 1 refused 0'; } >counted
@@ -123,10 +234,10 @@ run stream ring answers cuts folder
 expect 'a body that is a folder' nothing 'folder: Is a directory'
 run stream ring answers cuts /dev/full
 expect 'a body that takes nothing' three '/dev/full: cannot be written'
-timeout 20 "$ouiread" stream ring answers >/dev/full 2>err
+timeout 20 "$ouiread" stream ring answers --uri uri >/dev/full 2>err
 : >out
 expect 'events that cannot be written' nothing 'standard output: cannot be written'
-timeout 20 "$ouiread" stream ring answers --tally >/dev/full 2>err
+timeout 20 "$ouiread" stream ring answers --tally --uri uri >/dev/full 2>err
 expect 'events and a tally that cannot be written' nothing 'standard output: cannot be written'
 
 mkfifo pipe

@@ -18,6 +18,8 @@ TIME = "1584748800"
 OK = "HTTP/1.1 200 OK"
 PSEUDO = ["(response-status)", "(created)"]
 OURS = ["x-Ouinet-version", "x-Ouinet-uri", "x-Ouinet-injection"]
+# what the program asks for
+URI = "https://example.com/hello"
 NAMES = PSEUDO + OURS + ["date", "content-type"]
 
 # ---- a good head, and changes of it
@@ -41,7 +43,7 @@ def sig0(names=NAMES, key=FIRST, created=TIME, signature=SIGNATURE):
 
 GOOD = [
     ("X-Ouinet-Version", "4"),
-    ("X-Ouinet-URI", "https://example.com/hello"),
+    ("X-Ouinet-URI", URI),
     ("X-Ouinet-Injection", injection()),
     ("Date", "Sat, 21 Mar 2020 00:00:00 GMT"),
     ("Content-Type", "text/plain"),
@@ -258,7 +260,7 @@ def plain_rules():
     broken(4, "uri-absent", without("X-Ouinet-URI"))
     broken(4, "uri-empty", put("X-Ouinet-URI", ""))
     broken(4, "uri-of-blanks", put("X-Ouinet-URI", " \t "))
-    good("uri-of-one-byte", put("X-Ouinet-URI", "/"))
+    broken(16, "uri-of-one-byte", put("X-Ouinet-URI", "/"))
 
 
 def injections():
@@ -425,6 +427,20 @@ def lists():
         good(f"string-list-{label}", listing(names), names=names)
 
 
+def asked():
+    """Heads of another URI than the one asked for, with as few fields as may be; and such heads that break another rule too."""
+    fewest = PSEUDO + OURS
+    short = [f for f in put("X-Ouinet-Sig0", sig0(fewest)) if f[0] not in ("Date", "Content-Type", "Trailer")]
+    good("uri-with-blanks-around", put("X-Ouinet-URI", f"\t {URI} \t", short), names=fewest)
+    for label, uri in [("in-other-case", URI.replace("hello", "Hello")), ("cut", URI[:-1]), ("longer", URI + "/")]:
+        broken(16, f"uri-{label}", put("X-Ouinet-URI", uri, short))
+    other = put("X-Ouinet-URI", "/", short)
+    broken(4, "order-list-and-uri", put("X-Ouinet-Sig0", sig0(PSEUDO), other))
+    broken(5, "order-version-and-uri", put("X-Ouinet-Version", "5", other))
+    broken(16, "order-uri-and-trust", put("X-Ouinet-Injection", injection(ts="0"), other))
+    broken(16, "order-uri-and-unlike-keys", put("X-Ouinet-BSigs", bsigs(key=OTHER), other))
+
+
 def trust():
     for ts, key in [(1000000000, 0), (1500000000, 0), (1584748000, 1), (1584748999, 1)]:
         good(f"trust-at-{ts}", signed_by(FIRST, str(ts)), key=key)
@@ -463,7 +479,7 @@ def order():
     broken(4, "order-length-and-trust", signed_by(STRANGE, TIME) + [("Content-Length", "0")])
 
 
-for part in (limits, text_rules, repetitions, plain_rules, injections, block_signatures, head_signatures, lists, trust, order):
+for part in (limits, text_rules, repetitions, plain_rules, injections, block_signatures, head_signatures, lists, asked, trust, order):
     part()
 labels = [label for label, _, _ in CASES]
 assert len(set(labels)) == len(labels) and not any(" " in label for label in labels)

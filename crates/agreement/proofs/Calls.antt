@@ -20,9 +20,9 @@ use Rattle.stream.specs.Head.{headOf, statusDigits, signedOf}
 use Rattle.stream.specs.Limits.{blockLimit}
 use Rattle.stream.specs.Lines.{Field}
 use Rattle.stream.specs.Numbers.{decimalValue}
-use Rattle.stream.specs.Ring.{Ring}
 use Rattle.stream.specs.Stream.{Show, Past, after, Context, rules, blockOffset, bodyWith, showOf}
 use Rattle.stream.specs.Stream as C
+use Rattle.stream.specs.Terms.{Terms}
 use Rattle.stream.proofs.Sound.{not-whole-empty}
 use Rattle.handing.proofs.ValueLaws.{handed-signed}
 use Rattle.state.specs.Configuration.{Configuration, configuration, pending, refuse}
@@ -48,31 +48,31 @@ use Rattle.agreement.proofs.Bytes as B
 use Rattle.agreement.proofs.Holds.{Holds, CallFollows, part-is, follows, unchanged-follows, reading-phase, asked-phase, finished-phase, stands-back}
 
 -- while bytes are taken no block is handed out
-quiet-holds : {ring : Ring} {fields : List Field} {d : Configuration} {s : Standing} → Reads ring fields d s → Holds ring d (record { released = []; signed = fields }) s
+quiet-holds : {terms : Terms} {fields : List Field} {d : Configuration} {s : Standing} → Reads terms fields d s → Holds terms d (record { released = []; signed = fields }) s
 quiet-holds r = record { stands = r .stands; lent = r .lent; block = rw (r .taken) refl }
 
-module _ (ring : Ring) (h : Handed) where
+module _ (terms : Terms) (h : Handed) where
   -- ---- a feed
 
-  event-holds : {d : Configuration} {s : Standing} (piece : List ℕ) (e : Event Question Release LastWord) → isRelease e ≡ false → Reads ring (h .signed) d s
-      → Holds ring d (handedAfter h (feed piece) (event e)) s
+  event-holds : {d : Configuration} {s : Standing} (piece : List ℕ) (e : Event Question Release LastWord) → isRelease e ≡ false → Reads terms (h .signed) d s
+      → Holds terms d (handedAfter h (feed piece) (event e)) s
   event-holds piece (question q) z r = quiet-holds r
   event-holds piece (message e) z r = absurd (true≢false z)
   event-holds piece (last l) z r = quiet-holds r
 
-  fed-follows : {f : Fed} {t : Turn Context Question Release LastWord} (piece : List ℕ) → FedAs ring (h .signed) 0 f t
-      → CallFollows ring h (feed piece) (fed f) t
+  fed-follows : {f : Fed} {t : Turn Context Question Release LastWord} (piece : List ℕ) → FedAs terms (h .signed) 0 f t
+      → CallFollows terms h (feed piece) (fed f) t
   unfolding wordSeen
   fed-follows piece (B.all {n} e r) = follows _ more n _ (quiet-holds r) refl (e ∙ zero-add n)
   fed-follows piece (B.upTo {e = x} {n} e w z r) = follows _ (event x) n _ (event-holds piece x z r) w (e ∙ zero-add n)
 
-  pub feed-follows : (d : Configuration) (s : Standing) (piece : List ℕ) → Holds ring d h s
-      → CallFollows ring h (feed piece) (pick (isReading (d .reader .phase)) (takenFrom ring (recalled d) piece) (unchanged 1 d)) (respond (rules ring) s (feed piece))
+  pub feed-follows : (d : Configuration) (s : Standing) (piece : List ℕ) → Holds terms d h s
+      → CallFollows terms h (feed piece) (pick (isReading (d .reader .phase)) (takenFrom terms (recalled d) piece) (unchanged 1 d)) (respond (rules terms) s (feed piece))
   unfolding takenFrom respond
   feed-follows d (running c g) piece k =
       rw (reading-phase (k .stands))
       (fed-follows piece
-      (piece-follows ring (h .signed) piece 0 (recalled d)
+      (piece-follows terms (h .signed) piece 0 (recalled d)
       (record { stands = stands-back (k .stands); lent = still (k .lent) _ refl refl refl refl refl; taken = refl })))
   feed-follows d (asked y) piece k = rw (asked-phase (k .stands)) (unchanged-follows 1 d (asked y) refl k)
   feed-follows d finished piece k = rw (finished-phase (k .stands)) (unchanged-follows 1 d finished refl k)
@@ -81,15 +81,15 @@ module _ (ring : Ring) (h : Handed) where
 
   -- a refusal with no block handed out
   refused-follows : (r : Request) (why : Refusal) (count : ℕ) (d : Configuration) → 3 ≤ why .number → Lent d (h .signed) → d .reader .released ≡ 0 → blockLeft r (h .released) ≡ []
-      → CallFollows ring h r (given 0 (refuse why count d)) ((event (last (E.refused (why .number) (why .at))), 0), finished)
+      → CallFollows terms h r (given 0 (refuse why count d)) ((event (last (E.refused (why .number) (why .at))), 0), finished)
   unfolding refuse
   refused-follows r why count d m l z e =
       follows _ (event (last (E.refused (why .number) (why .at)))) 0 finished
       (record { stands = F.refused; lent = still l _ refl refl (length-cleared count (d .block)) refl refl; block = rw (z, e) refl })
       (seen-final why _ _ m) refl
 
-  pub end-follows : (d : Configuration) (s : Standing) → Holds ring d h s
-      → CallFollows ring h end (pick (isReading (d .reader .phase)) (given 0 (refuse (plain 11) (pending (d .reader .phase)) (recalled d))) (unchanged 1 d)) (respond (rules ring) s end)
+  pub end-follows : (d : Configuration) (s : Standing) → Holds terms d h s
+      → CallFollows terms h end (pick (isReading (d .reader .phase)) (given 0 (refuse (plain 11) (pending (d .reader .phase)) (recalled d))) (unchanged 1 d)) (respond (rules terms) s end)
   unfolding respond rules
   end-follows d (running c g) k =
       rw (reading-phase (k .stands))
@@ -98,33 +98,33 @@ module _ (ring : Ring) (h : Handed) where
   end-follows d finished k = rw (finished-phase (k .stands)) (unchanged-follows 1 d finished refl k)
 
   -- with no block handed out, nothing is
-  none-out : {d : Configuration} {s : Standing} → Holds ring d h s → d .reader .released ≡ 0 → h .released ≡ []
+  none-out : {d : Configuration} {s : Standing} → Holds terms d h s → d .reader .released ≡ 0 → h .released ≡ []
   none-out k z = sym (rw z at (k .block))
 
   -- ---- an answer to the head's question
 
-  module _ (d : Configuration) (n : ℕ) (l : List ℕ) (lent : Lent d (h .signed)) (a : HeadAsked ring d n l) (none : h .released ≡ []) where
+  module _ (d : Configuration) (n : ℕ) (l : List ℕ) (lent : Lent d (h .signed)) (a : HeadAsked terms d n l) (none : h .released ≡ []) where
     within : n ≤ length (d .head)
     within = rw (← a .bytes .count, ← a .bytes .bytes, length-take) (omega arith)
 
-    accepted-holds : Holds ring (configuration (accepting (d .reader) n) (d .head) (d .block) (d .question)) (record { released = h .released; signed = signedOf (headOf l) }) (running (C.firstLine (showOf ring (headOf l))) [])
+    accepted-holds : Holds terms (configuration (accepting (d .reader) n) (d .head) (d .block) (d .question)) (record { released = h .released; signed = signedOf (headOf l) }) (running (C.firstLine (showOf (terms .ring) (headOf l))) [])
     accepted-holds =
         record {
           stands =
               F.firstLine (record { id = a .keeps .id; size = a .keeps .size; key = a .keeps .key }) (a .sound) (a .none) (none-gathered (d .reader .line))
-              (not-whole-empty (C.firstLine (showOf ring (headOf l))) (a .sound));
+              (not-whole-empty (C.firstLine (showOf (terms .ring) (headOf l))) (a .sound));
           lent =
               record {
                 head = lent .head;
                 block = lent .block;
                 question = lent .question;
                 line = lent .line;
-                handed = rw (a .bytes .bytes) at (handed-signed ring (d .head) n (lent .head) within (rw (a .bytes .bytes) (a .good)));
+                handed = rw (a .bytes .bytes) at (handed-signed terms (d .head) n (lent .head) within (rw (a .bytes .bytes) (a .good)));
               };
           block = rw (a .taken, none) refl;
         }
 
-    head-answer-follows : (good : Bool) → CallFollows ring h (answer good) (headAnswer n d good) (respond (rules ring) (asked (F.headGrant ring d l)) (answer good))
+    head-answer-follows : (good : Bool) → CallFollows terms h (answer good) (headAnswer n d good) (respond (rules terms) (asked (F.headGrant terms d l)) (answer good))
     unfolding headAnswer respond rules wordSeen
     head-answer-follows true =
         let f = accepted-holds .lent .handed in
@@ -134,7 +134,7 @@ module _ (ring : Ring) (h : Handed) where
 
   -- ---- an answer to a block's question
 
-  module _ (d : Configuration) (s : Show) (p : Past) (size next : ℕ) (b : List ℕ) (lent : Lent d (h .signed)) (a : BlockAsked ring d s p size next b) (none : h .released ≡ []) where
+  module _ (d : Configuration) (s : Show) (p : Past) (size next : ℕ) (b : List ℕ) (lent : Lent d (h .signed)) (a : BlockAsked terms d s p size next b) (none : h .released ≡ []) where
     counts : Counts (followed (d .reader .chain)) (after p b)
     unfolding releasing following
     counts =
@@ -146,7 +146,7 @@ module _ (ring : Ring) (h : Handed) where
     abbrev handed : Handed
     handed = record { released = b; signed = h .signed }
 
-    released-holds : Holds ring (configuration (releasing (d .reader) size next) (d .head) (d .block) (d .question)) handed (running (C.announced s (after p b) (bodyWith s p b) next) [])
+    released-holds : Holds terms (configuration (releasing (d .reader) size next) (d .head) (d .block) (d .question)) handed (running (C.announced s (after p b) (bodyWith s p b) next) [])
     unfolding releasing
     released-holds =
         let e : Line.bodyWith (d .reader) size ≡ bodyWith s p b = body-now (d .reader) s p b size (a .bytes .count) (a .keeps) (a .blocks) (a .sound) in
@@ -156,7 +156,7 @@ module _ (ring : Ring) (h : Handed) where
           block = a .bytes .bytes;
         }
 
-    block-answer-follows : (good : Bool) → CallFollows ring h (answer good) (blockAnswer size next d good) (respond (rules ring) (asked (F.blockGrant ring d s p next b)) (answer good))
+    block-answer-follows : (good : Bool) → CallFollows terms h (answer good) (blockAnswer size next d good) (respond (rules terms) (asked (F.blockGrant terms d s p next b)) (answer good))
     unfolding blockAnswer respond rules wordSeen releasing
     block-answer-follows true =
         let m : min size blockLimit ≡ size = omega (arith, a .bytes .count, a .sound .most, a .sound .show .most) in
@@ -168,8 +168,8 @@ module _ (ring : Ring) (h : Handed) where
 
   -- ---- any answer
 
-  pub answer-follows : (d : Configuration) (p : Phase) (s : Standing) (good : Bool) → Holds ring d h s → At ring d p s
-      → CallFollows ring h (answer good) (answerAt p d good) (respond (rules ring) s (answer good))
+  pub answer-follows : (d : Configuration) (p : Phase) (s : Standing) (good : Bool) → Holds terms d h s → At terms d p s
+      → CallFollows terms h (answer good) (answerAt p d good) (respond (rules terms) s (answer good))
   unfolding answerAt respond
   answer-follows d p (asked y) good k (F.headAsked {n} {l} a) = head-answer-follows d n l (k .lent) a (none-out k (a .taken)) good
   answer-follows d p (asked y) good k (F.blockAsked {size} {next} {b} {s} {p = q} a) = block-answer-follows d s q size next b (k .lent) a (none-out k (a .taken)) good

@@ -16,9 +16,9 @@ use Rattle.stream.specs.Bytes.{same}
 use Rattle.stream.specs.Events.{refused}
 use Rattle.stream.specs.Lines.{Field, crlf}
 use Rattle.stream.specs.Places.{dataEndPlace}
-use Rattle.stream.specs.Ring.{Ring}
 use Rattle.stream.specs.Stream.{Show, Past, isWhole, judge, judgeDataEnd, rules}
 use Rattle.stream.specs.Stream as C
+use Rattle.stream.specs.Terms.{Terms}
 use Rattle.stream.proofs.Sound.{SoundBlock, not-whole-empty}
 use Rattle.state.specs.Configuration.{Configuration, configuration, inPhase, on, moved, refuse}
 use Rattle.body_steps.specs.Data.{pushData, pushDataEnd}
@@ -29,7 +29,7 @@ use Rattle.agreement.proofs.Stands as F
 use Rattle.agreement.proofs.Gathering.{none-gathered, gather, short, still, under-on}
 use Rattle.agreement.proofs.Refusals.{refuses}
 
-module _ (ring : Ring) (fields : List Field) (d : Configuration) (x : ℕ) (lent : Lent d fields) (none : d .reader .released ≡ 0) (s : Show) (p : Past) where
+module _ (terms : Terms) (fields : List Field) (d : Configuration) (x : ℕ) (lent : Lent d fields) (none : d .reader .released ≡ 0) (s : Show) (p : Past) where
   -- ---- data
 
   module _ (have size : ℕ) (g : List ℕ) (k : Keeps (d .reader .fixed) s) (c : Counts (d .reader .chain) p) (sound : SoundBlock s p size) where
@@ -37,7 +37,7 @@ module _ (ring : Ring) (fields : List Field) (d : Configuration) (x : ℕ) (lent
     filled q = configuration (inPhase (d .reader) q) (d .head) (set (d .block) have x) (d .question)
 
     data-by : (t : Bool) → leb size (have + 1) ≡ t → have < size → length (g ++ x ∷ []) ≡ have + 1 → Gathered (set (d .block) have x) (have + 1) (g ++ x ∷ [])
-        → Follows ring fields (on (filled (pick t (P.DataEnd 0 size) (P.Data (have + 1) size)))) (gathered (rules ring) t (C.blockData s p size) (g ++ x ∷ []))
+        → Follows terms fields (on (filled (pick t (P.DataEnd 0 size) (P.Data (have + 1) size)))) (gathered (rules terms) t (C.blockData s p size) (g ++ x ∷ []))
     unfolding rules judge isWhole
     data-by true e m n a =
         let z : have + 1 ≡ size = omega (arith, leb-true size (have + 1) e) in
@@ -59,7 +59,7 @@ module _ (ring : Ring) (fields : List Field) (d : Configuration) (x : ℕ) (lent
         })
 
     pub data-step : Gathered (d .block) have g → isWhole (C.blockData s p size) g ≡ false
-        → Follows ring fields (pushData d have size x) (step (rules ring) (C.blockData s p size) g x)
+        → Follows terms fields (pushData d have size x) (step (rules terms) (C.blockData s p size) g x)
     unfolding pushData step rules isWhole
     data-step a e =
         let m : have < size = rw (a .count) at (short (C.blockData s p size) g e) in
@@ -70,7 +70,7 @@ module _ (ring : Ring) (fields : List Field) (d : Configuration) (x : ℕ) (lent
   -- ---- the CR LF after it
 
   module _ (size : ℕ) (b : List ℕ) (u : Under d s p size b) where
-    end-by : (l : List ℕ) (t : Bool) → Follows ring fields (pick t (on (moved d (P.NextLine 0 size))) (refuse (placed 6 (dataEndPlace l)) size d))
+    end-by : (l : List ℕ) (t : Bool) → Follows terms fields (pick t (on (moved d (P.NextLine 0 size))) (refuse (placed 6 (dataEndPlace l)) size d))
         (ruling (elim t [ true ↦ go (C.nextLine s p b) | false ↦ stop (refused 6 (dataEndPlace l)) ]))
     unfolding isWhole
     end-by l true =
@@ -83,7 +83,7 @@ module _ (ring : Ring) (fields : List Field) (d : Configuration) (x : ℕ) (lent
     end-by l false = refuses _ size d (omega arith) lent none
 
     pub end-step : (have : ℕ) (g : List ℕ) → Gathered (d .reader .line) have g → isWhole (C.dataEnd s p b) g ≡ false
-        → Follows ring fields (pushDataEnd d have size x) (step (rules ring) (C.dataEnd s p b) g x)
+        → Follows terms fields (pushDataEnd d have size x) (step (rules terms) (C.dataEnd s p b) g x)
     unfolding pushDataEnd step rules isWhole judge judgeDataEnd
     end-step zero g a e =
         let c = gather (d .reader .line) g 0 x a (rw (lent .line) (omega arith)) in

@@ -16,10 +16,11 @@ use Rattle.stream.specs.Bytes.{same}
 use Rattle.stream.specs.Head.{headOf, headFault, trustedBy, isWholeHead}
 use Rattle.stream.specs.Limits.{lineLimit}
 use Rattle.stream.specs.Lines.{crlf}
-use Rattle.stream.specs.Ring.{Ring, numberOf}
+use Rattle.stream.specs.Ring.{numberOf}
+use Rattle.stream.specs.Terms.{Terms}
 use Rattle.stream.specs.Trailer.{isWholeTrailer, isTrailer}
-use Rattle.signing.specs.Judgement.{headJudged, noneAsked, judged}
-use Rattle.signing.specs.Judgement as J
+use Rattle.judging.specs.Judgement.{headJudged, noneAsked, judged}
+use Rattle.judging.specs.Judgement as J
 use Rattle.state.specs.Configuration.{Configuration, configuration, inPhase, Next, on, stop, refuse}
 use Rattle.line_steps.specs.FirstLine.{firstAnswered, firstGathered, pushFirstLine}
 use Rattle.line_steps.specs.NextLine.{nextJudged, nextAnswered, nextGathered, pushNextLine}
@@ -97,48 +98,48 @@ fine-trailer d have total x =
     (fine-pick (isWholeTrailer text) _ _ (fine-pick (isTrailer text) _ _ refl (fine-refuse _ (have + 1) _ (omega arith))) refl)
 
 -- a head's refusal too
-fine-judged : (d : Configuration) (n : ℕ) (ring : Ring) (l q : List ℕ) → Fine (judgedAt d n (headJudged ring l q))
+fine-judged : (d : Configuration) (n : ℕ) (terms : Terms) (l q : List ℕ) → Fine (judgedAt d n (headJudged terms l q))
 unfolding headJudged headAnswered J.asked
-fine-judged d n ring l q = by (headFault ring l) refl
+fine-judged d n terms l q = by (headFault terms l) refl
   where
-    room : (t : Bool) → Fine (judgedAt d n (pick t (J.asked (numberOf (trustedBy ring (headOf l))) (headOf l) q) (judged (noneAsked 3 l) q)))
+    room : (t : Bool) → Fine (judgedAt d n (pick t (J.asked (numberOf (trustedBy (terms .ring) (headOf l))) (headOf l) q) (judged (noneAsked 3 l) q)))
     room true = refl
     room false = fine-refuse _ 0 _ (omega arith)
 
-    by : (fault : ℕ) → headFault ring l ≡ fault
+    by : (fault : ℕ) → headFault terms l ≡ fault
         → Fine
         (judgedAt d n
         (pick (eqb fault 0)
-        (pick (leb (length l) (length q)) (J.asked (numberOf (trustedBy ring (headOf l))) (headOf l) q) (judged (noneAsked 3 l) q))
+        (pick (leb (length l) (length q)) (J.asked (numberOf (trustedBy (terms .ring) (headOf l))) (headOf l) q) (judged (noneAsked 3 l) q))
         (judged (noneAsked fault l) q)))
     by zero e = room (leb (length l) (length q))
-    by (suc k) e = rw (ne-eqb (suc k) 0 (λ x. omega arith)) (fine-refuse _ 0 _ (head-number ring l k e))
+    by (suc k) e = rw (ne-eqb (suc k) 0 (λ x. omega arith)) (fine-refuse _ 0 _ (head-number terms l k e))
 
-fine-head : (ring : Ring) (d : Configuration) (have x : ℕ) → Fine (pushHead ring d have x)
+fine-head : (terms : Terms) (d : Configuration) (have x : ℕ) → Fine (pushHead terms d have x)
 unfolding pushHead headGathered
-fine-head ring d have x =
+fine-head terms d have x =
     fine-pick (leb (length (d .head)) have) _ _ (fine-refuse _ 0 d (omega arith))
-    (fine-pick (isWholeHead (take (have + 1) (set (d .head) have x))) _ _ (fine-judged (configuration (inPhase (d .reader) (P.Head (have + 1))) (set (d .head) have x) (d .block) (d .question)) (have + 1) ring _ (d .question)) refl)
+    (fine-pick (isWholeHead (take (have + 1) (set (d .head) have x))) _ _ (fine-judged (configuration (inPhase (d .reader) (P.Head (have + 1))) (set (d .head) have x) (d .block) (d .question)) (have + 1) terms _ (d .question)) refl)
 
-fine-push : (ring : Ring) (d : Configuration) (p : Phase) (x : ℕ) → isReading p ≡ true → Fine (pushAt ring p d x)
+fine-push : (terms : Terms) (d : Configuration) (p : Phase) (x : ℕ) → isReading p ≡ true → Fine (pushAt terms p d x)
 unfolding pushAt
-fine-push ring d (P.Head have) x e = fine-head ring d have x
-fine-push ring d (P.HeadAsked n) x e = absurd (true≢false (sym e))
-fine-push ring d (P.FirstLine have) x e = fine-first-line d have x
-fine-push ring d (P.Data have size) x e = fine-data d have size x
-fine-push ring d (P.DataEnd have size) x e = fine-end d have size x
-fine-push ring d (P.NextLine have size) x e = fine-next-line d have size x
-fine-push ring d (P.BlockAsked size next) x e = absurd (true≢false (sym e))
-fine-push ring d (P.Trailer have total) x e = fine-trailer d have total x
-fine-push ring d (P.Closed total) x e = absurd (true≢false (sym e))
-fine-push ring d (P.Refused n) x e = absurd (true≢false (sym e))
+fine-push terms d (P.Head have) x e = fine-head terms d have x
+fine-push terms d (P.HeadAsked n) x e = absurd (true≢false (sym e))
+fine-push terms d (P.FirstLine have) x e = fine-first-line d have x
+fine-push terms d (P.Data have size) x e = fine-data d have size x
+fine-push terms d (P.DataEnd have size) x e = fine-end d have size x
+fine-push terms d (P.NextLine have size) x e = fine-next-line d have size x
+fine-push terms d (P.BlockAsked size next) x e = absurd (true≢false (sym e))
+fine-push terms d (P.Trailer have total) x e = fine-trailer d have total x
+fine-push terms d (P.Closed total) x e = absurd (true≢false (sym e))
+fine-push terms d (P.Refused n) x e = absurd (true≢false (sym e))
 
-pub fine-run : (ring : Ring) (d : Configuration) (t : ℕ) (xs : List ℕ) → isReading (d .reader .phase) ≡ true → isMisuse (fed (runOf (pushByte ring) d t xs) .word) ≡ false
+pub fine-run : (terms : Terms) (d : Configuration) (t : ℕ) (xs : List ℕ) → isReading (d .reader .phase) ≡ true → isMisuse (fed (runOf (pushByte terms) d t xs) .word) ≡ false
 unfolding runOf
-fine-run ring d t [] e = refl
-fine-run ring d t (x ∷ xs) e = by (pushByte ring d x) (fine-push ring d (d .reader .phase) x e) (λ d′. fine-run ring d′ (t + 1) xs)
+fine-run terms d t [] e = refl
+fine-run terms d t (x ∷ xs) e = by (pushByte terms d x) (fine-push terms d (d .reader .phase) x e) (λ d′. fine-run terms d′ (t + 1) xs)
   where
-    by : (n : Next) → Fine n → ((d′ : Configuration) → isReading (d′ .reader .phase) ≡ true → isMisuse (fed (runOf (pushByte ring) d′ (t + 1) xs) .word) ≡ false)
-        → isMisuse (fed (follow n (t + 1) (λ d′. runOf (pushByte ring) d′ (t + 1) xs)) .word) ≡ false
+    by : (n : Next) → Fine n → ((d′ : Configuration) → isReading (d′ .reader .phase) ≡ true → isMisuse (fed (runOf (pushByte terms) d′ (t + 1) xs) .word) ≡ false)
+        → isMisuse (fed (follow n (t + 1) (λ d′. runOf (pushByte terms) d′ (t + 1) xs)) .word) ≡ false
     by (on d′) f ih = ih d′ f
     by (stop w signature d′) f ih = f

@@ -18,14 +18,15 @@ use Rattle.stream.specs.Limits.{headLimit, idLimit}
 use Rattle.stream.specs.Lines.{Field}
 use Rattle.stream.specs.Numbers.{decimalValue}
 use Rattle.stream.specs.Places.{headPlace}
-use Rattle.stream.specs.Ring.{Ring, numberOf}
+use Rattle.stream.specs.Ring.{numberOf}
 use Rattle.stream.specs.Stream.{isWhole, unlessBroken, showOf, headQuestion, acceptHead, judge, judgeHead, rules}
 use Rattle.stream.specs.Stream as C
+use Rattle.stream.specs.Terms.{Terms}
 use Rattle.stream.proofs.SigningSize.{signing-fits}
 use Rattle.stream.proofs.SoundJudge.{SoundSays, judge-sound}
 use Rattle.handing.proofs.ValueLaws.{handed-none}
-use Rattle.signing.specs.Judgement.{headJudged, noneAsked, judged}
-use Rattle.signing.specs.Judgement as J
+use Rattle.judging.specs.Judgement.{headJudged, noneAsked, judged}
+use Rattle.judging.specs.Judgement as J
 use Rattle.state.specs.Configuration.{Configuration, configuration, inPhase, on}
 use Rattle.state.specs.declared.phase.Phase.the-variants as P
 use Rattle.state.specs.declared.reader.Reader.{Reader}
@@ -38,7 +39,7 @@ use Rattle.agreement.proofs.Gathering.{gather, short, at-most, still}
 use Rattle.agreement.proofs.NextSteps.{front-length}
 use Rattle.agreement.proofs.Refusals.{refuses, head-number}
 
-module _ (ring : Ring) (fields : List Field) (d : Configuration) (x : ℕ) (lent : Lent d fields) (none : d .reader .released ≡ 0)
+module _ (terms : Terms) (fields : List Field) (d : Configuration) (x : ℕ) (lent : Lent d fields) (none : d .reader .released ≡ 0)
     (early : d .reader .fixed .accepted ≡ 0) (have : ℕ) (g : List ℕ) where
   abbrev l : List ℕ
   l = g ++ x ∷ []
@@ -61,25 +62,25 @@ module _ (ring : Ring) (fields : List Field) (d : Configuration) (x : ℕ) (lent
   message = signingString (headOf l)
 
   seen-is : (e : Configuration) → length message ≤ length (d .question) → e .question ≡ message ++ drop (length message) (d .question)
-      → wordSeen (W.Question (length message) (numberOf (trustedBy ring (headOf l)))) (headSignature (headOf l)) e ≡ event (question (headQuestion ring (headOf l)))
+      → wordSeen (W.Question (length message) (numberOf (trustedBy (terms .ring) (headOf l)))) (headSignature (headOf l)) e ≡ event (question (headQuestion (terms .ring) (headOf l)))
   unfolding wordSeen headQuestion showOf
   seen-is e f q = rw (q, front-length message (d .question) f, le-leb (length message) (length (d .question)) f, take-append-seam message (drop (length message) (d .question)))
 
   abbrev asks : Reader
   asks =
       asking (d′ .reader) (have + 1)
-      (fixing (d′ .reader .fixed) (decimalValue (statusDigits (headOf l))) (blockSize (headOf l)) (numberOf (trustedBy ring (headOf l)))
+      (fixing (d′ .reader .fixed) (decimalValue (statusDigits (headOf l))) (blockSize (headOf l)) (numberOf (trustedBy (terms .ring) (headOf l)))
       (padded idLimit (injectionId (headOf l))) (length (injectionId (headOf l))))
 
-  kept : Keeps (asks .fixed) (showOf ring (headOf l))
+  kept : Keeps (asks .fixed) (showOf (terms .ring) (headOf l))
   unfolding showOf padded
   kept = record { id = take-append-seam (injectionId (headOf l)) _; size = refl; key = refl }
 
-  question-follows : headFault ring l ≡ 0 → length l ≤ length (d .question) → SoundSays (acceptHead ring (headOf l)) → Gathered (set (d .head) have x) (have + 1) l
-      → Follows ring fields (judgedAt d′ (have + 1) (J.asked (numberOf (trustedBy ring (headOf l))) (headOf l) (d .question))) (ruling (acceptHead ring (headOf l)))
+  question-follows : headFault terms l ≡ 0 → length l ≤ length (d .question) → SoundSays (acceptHead (terms .ring) (headOf l)) → Gathered (set (d .head) have x) (have + 1) l
+      → Follows terms fields (judgedAt d′ (have + 1) (J.asked (numberOf (trustedBy (terms .ring) (headOf l))) (headOf l) (d .question))) (ruling (acceptHead (terms .ring) (headOf l)))
   unfolding headAnswered J.asked acceptHead
   question-follows e m h a =
-      F.says (seen-is _ (omega (arith, signing-fits ring l e)) refl) refl
+      F.says (seen-is _ (omega (arith, signing-fits terms l e)) refl) refl
       (record {
         stands =
             F.headAsked {l = l}
@@ -92,29 +93,29 @@ module _ (ring : Ring) (fields : List Field) (d : Configuration) (x : ℕ) (lent
               none = refl;
               taken = none;
             });
-        lent = still lent′ _ refl refl refl (front-length message (d .question) (omega (arith, signing-fits ring l e))) refl;
+        lent = still lent′ _ refl refl refl (front-length message (d .question) (omega (arith, signing-fits terms l e))) refl;
         taken = none;
       })
 
-  answered : (fault : ℕ) → headFault ring l ≡ fault → SoundSays (unlessBroken fault (headPlace l) (acceptHead ring (headOf l))) → length l ≤ length (d .question)
+  answered : (fault : ℕ) → headFault terms l ≡ fault → SoundSays (unlessBroken fault (headPlace l) (acceptHead (terms .ring) (headOf l))) → length l ≤ length (d .question)
       → Gathered (set (d .head) have x) (have + 1) l
-      → Follows ring fields
+      → Follows terms fields
       (judgedAt d′ (have + 1)
       (pick (eqb fault 0)
-      (pick (leb (length l) (length (d .question))) (J.asked (numberOf (trustedBy ring (headOf l))) (headOf l) (d .question)) (judged (noneAsked 3 l) (d .question)))
+      (pick (leb (length l) (length (d .question))) (J.asked (numberOf (trustedBy (terms .ring) (headOf l))) (headOf l) (d .question)) (judged (noneAsked 3 l) (d .question)))
       (judged (noneAsked fault l) (d .question))))
-      (ruling (unlessBroken fault (headPlace l) (acceptHead ring (headOf l))))
+      (ruling (unlessBroken fault (headPlace l) (acceptHead (terms .ring) (headOf l))))
   unfolding headAnswered
   answered zero e h m a = rw (le-leb (length l) (length (d .question)) m) (question-follows e m h a)
-  answered (suc n) e h m a = rw (ne-eqb (suc n) 0 (λ e. omega arith)) (refuses _ 0 d′ (head-number ring l n e) lent′ none)
+  answered (suc n) e h m a = rw (ne-eqb (suc n) 0 (λ e. omega arith)) (refuses _ 0 d′ (head-number terms l n e) lent′ none)
 
   by : (t : Bool) → isWhole C.head l ≡ t → length l ≤ headLimit → Gathered (set (d .head) have x) (have + 1) l
-      → Follows ring fields (pick t (judgedAt d′ (have + 1) (headJudged ring l (d .question))) (on d′)) (gathered (rules ring) t C.head l)
+      → Follows terms fields (pick t (judgedAt d′ (have + 1) (headJudged terms l (d .question))) (on d′)) (gathered (rules terms) t C.head l)
   unfolding rules judge judgeHead headJudged
-  by true e m a = answered (headFault ring l) refl (judge-sound ring C.head l tt e m) (omega (arith, lent .question)) a
+  by true e m a = answered (headFault terms l) refl (judge-sound terms C.head l tt e m) (omega (arith, lent .question)) a
   by false e m a = F.on (record { stands = F.head early a e; lent = lent′; taken = none })
 
-  pub head-step : Gathered (d .head) have g → isWhole C.head g ≡ false → Follows ring fields (pushHead ring d have x) (step (rules ring) C.head g x)
+  pub head-step : Gathered (d .head) have g → isWhole C.head g ≡ false → Follows terms fields (pushHead terms d have x) (step (rules terms) C.head g x)
   unfolding pushHead headGathered step rules isWhole
   head-step a e =
       let m : have < headLimit = rw (a .count) at (short C.head g e) in

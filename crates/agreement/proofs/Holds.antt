@@ -11,8 +11,8 @@ use Rattle.sections.specs.Machine.{running, asked, finished, Turn, declined}
 use Rattle.stream.specs.Events.{Question, Release, LastWord}
 use Rattle.stream.specs.Limits.{headLimit, blockLimit}
 use Rattle.stream.specs.Lines.{Field}
-use Rattle.stream.specs.Ring.{Ring}
 use Rattle.stream.specs.Stream.{Show, Past, Context}
+use Rattle.stream.specs.Terms.{Terms}
 use Rattle.handing.specs.Handing.{handedFields}
 use Rattle.state.specs.Configuration.{Configuration}
 use Rattle.state.specs.declared.phase.Phase.{Phase}
@@ -25,15 +25,15 @@ use Rattle.agreement.proofs.Stands.{Lent, Standing, At, Stands, Under}
 use Rattle.agreement.proofs.Stands as F
 
 -- the reader and its buffers stand for the state, and hand out what is to be handed out
-pub record Holds (ring : Ring) (d : Configuration) (h : Handed) (s : Standing) : Type 0 where
-  pub stands : Stands ring d s
+pub record Holds (terms : Terms) (d : Configuration) (h : Handed) (s : Standing) : Type 0 where
+  pub stands : Stands terms d s
   pub lent : Lent d (h .signed)
   pub block : take (d .reader .released) (d .block) ≡ h .released
 
 -- a call shows what the machine's turn says, and both go on side by side
-pub record CallFollows (ring : Ring) (h : Handed) (r : Request) (c : R.Response) (t : Turn Context Question Release LastWord) : Type 0 where
+pub record CallFollows (terms : Terms) (h : Handed) (r : Request) (c : R.Response) (t : Turn Context Question Release LastWord) : Type 0 where
   pub same : observed c ≡ observes (handedAfter h r (t .0 .0)) (t .0)
-  pub holds : Holds ring (c .after) (handedAfter h r (t .0 .0)) (t .1)
+  pub holds : Holds terms (c .after) (handedAfter h r (t .0 .0)) (t .1)
 
 -- ---- what is shown
 
@@ -41,7 +41,7 @@ pub part-is : (b : List ℕ) (n : ℕ) → blockLimit ≤ length b → blockPart
 unfolding blockPart
 part-is b n h = rw (le-leb blockLimit (length b) h)
 
-pub shown : {ring : Ring} (c : R.Response) (h : Handed) (o : Out Question Release LastWord) (s : Standing) → Holds ring (c .after) h s
+pub shown : {terms : Terms} (c : R.Response) (h : Handed) (o : Out Question Release LastWord) (s : Standing) → Holds terms (c .after) h s
     → wordSeen (c .word) (c .signature) (c .after) ≡ toldWord (o .0) → c .taken ≡ o .1 → observed c ≡ observes h o
 unfolding observed
 shown c h o s k w n =
@@ -49,15 +49,15 @@ shown c h o s k w n =
     let f : handedFields (c .after .head) (c .after .reader .fixed .accepted) ≡ h .signed = k .lent .handed in
     λ i. record { out = (w i, n i); block = b i; values = valuesIn (f i) }
 
-pub follows : {ring : Ring} {h : Handed} {r : Request} (c : R.Response) (w : Reply Question Release LastWord) (n : ℕ) (s : Standing)
-    → Holds ring (c .after) (handedAfter h r w) s → wordSeen (c .word) (c .signature) (c .after) ≡ toldWord w → c .taken ≡ n
-    → CallFollows ring h r c ((w, n), s)
+pub follows : {terms : Terms} {h : Handed} {r : Request} (c : R.Response) (w : Reply Question Release LastWord) (n : ℕ) (s : Standing)
+    → Holds terms (c .after) (handedAfter h r w) s → wordSeen (c .word) (c .signature) (c .after) ≡ toldWord w → c .taken ≡ n
+    → CallFollows terms h r c ((w, n), s)
 follows {h} {r} c w n s k e m = record { same = shown c (handedAfter h r w) (w, n) s k e m; holds = k }
 
 -- ---- refusals that change nothing
 
-pub unchanged-follows : {ring : Ring} {h : Handed} {r : Request} (n : ℕ) (d : Configuration) (s : Standing) → isOfCall n ≡ true → Holds ring d h s
-    → CallFollows ring h r (unchanged n d) (declined n s)
+pub unchanged-follows : {terms : Terms} {h : Handed} {r : Request} (n : ℕ) (d : Configuration) (s : Standing) → isOfCall n ≡ true → Holds terms d h s
+    → CallFollows terms h r (unchanged n d) (declined n s)
 unfolding wordSeen
 unchanged-follows n d s m k = follows (unchanged n d) (misused n) 0 s k (rw m) refl
 
@@ -67,8 +67,8 @@ unchanged-follows n d s m k = follows (unchanged n d) (misused n) 0 s k (rw m) r
 under-back : {d : Configuration} {s : Show} {p : Past} {size : ℕ} {b : List ℕ} → Under d s p size b → Under (recalled d) s p size b
 under-back u = record { keeps = u .keeps; counts = u .counts; sound = u .sound; bytes = u .bytes }
 
-module _ {ring : Ring} {d : Configuration} where
-  pub reading-phase : {p : Phase} {c : Context} {g : List ℕ} → At ring d p (running c g) → isReading p ≡ true
+module _ {terms : Terms} {d : Configuration} where
+  pub reading-phase : {p : Phase} {c : Context} {g : List ℕ} → At terms d p (running c g) → isReading p ≡ true
   reading-phase (F.head early a e) = refl
   reading-phase (F.firstLine k sound none a e) = refl
   reading-phase (F.blockData k c sound a e) = refl
@@ -76,16 +76,16 @@ module _ {ring : Ring} {d : Configuration} where
   reading-phase (F.nextLine u a e) = refl
   reading-phase (F.trailer most a e) = refl
 
-  pub asked-phase : {p : Phase} {y : Grant Context Release LastWord} → At ring d p (asked y) → isReading p ≡ false
+  pub asked-phase : {p : Phase} {y : Grant Context Release LastWord} → At terms d p (asked y) → isReading p ≡ false
   asked-phase (F.headAsked a) = refl
   asked-phase (F.blockAsked a) = refl
 
-  pub finished-phase : {p : Phase} → At ring d p finished → isReading p ≡ false
+  pub finished-phase : {p : Phase} → At terms d p finished → isReading p ≡ false
   finished-phase F.closed = refl
   finished-phase F.refused = refl
 
   -- and stands where it stood
-  pub stands-back : {p : Phase} {c : Context} {g : List ℕ} → At ring d p (running c g) → At ring (recalled d) p (running c g)
+  pub stands-back : {p : Phase} {c : Context} {g : List ℕ} → At terms d p (running c g) → At terms (recalled d) p (running c g)
   stands-back (F.head early a e) = F.head early a e
   stands-back (F.firstLine k sound none a e) = F.firstLine k sound none a e
   stands-back (F.blockData k c sound a e) = F.blockData k c sound a e

@@ -14,5 +14,5 @@ pub mod Streams
 pub mod Taking
 pub mod FineBytes
 pub mod Misuse
-pub mod RingUse
+pub mod TermsUse
 pub mod Signatures

@@ -16,9 +16,9 @@ use Rattle.stream.specs.Events.{closed, refused}
 use Rattle.stream.specs.Limits.{headLimit, bodyLimit, lineLimit}
 use Rattle.stream.specs.Lines.{Field}
 use Rattle.stream.specs.Places.{linePlace, trailerPlace}
-use Rattle.stream.specs.Ring.{Ring}
 use Rattle.stream.specs.Stream.{Show, Past, nothing, isWhole, announced, unlessBroken, judge, judgeFirstLine, judgeTrailer, rules}
 use Rattle.stream.specs.Stream as C
+use Rattle.stream.specs.Terms.{Terms}
 use Rattle.stream.specs.Trailer.{isWholeTrailer, isTrailer}
 use Rattle.stream.proofs.Sound.{SoundShow, Sound, not-whole-empty}
 use Rattle.stream.proofs.SoundJudge.{SoundSays, judge-sound}
@@ -38,21 +38,21 @@ use Rattle.agreement.proofs.Gathering.{none-gathered, gather, short, at
 use Rattle.agreement.proofs.Refusals.{refuses, line-number}
 
 -- the phase that a line of so many bytes announces stands for the context that it announces
-pub announced-at : {ring : Ring} (d : Configuration) (s : Show) (p : Past) (total n : ℕ) → Keeps (d .reader .fixed) s → Counts (d .reader .chain) p
-    → Sound (announced s p total n) → At ring d (Line.announced n total) (running (announced s p total n) [])
+pub announced-at : {terms : Terms} (d : Configuration) (s : Show) (p : Past) (total n : ℕ) → Keeps (d .reader .fixed) s → Counts (d .reader .chain) p
+    → Sound (announced s p total n) → At terms d (Line.announced n total) (running (announced s p total n) [])
 announced-at d s p total zero k c h = F.trailer h (none-gathered (d .block)) (not-whole-empty (C.trailer total) h)
 announced-at d s p total (suc n) k c h = rw (ne-eqb (suc n) 0 (λ e. omega arith)) (F.blockData k c h (none-gathered (d .block)) (not-whole-empty (C.blockData s p (suc n)) h))
 
 -- the same where the reader has counted the total
-pub announced-by : {ring : Ring} (d : Configuration) (s : Show) (p : Past) (t total n : ℕ) → t ≡ total → Keeps (d .reader .fixed) s → Counts (d .reader .chain) p
-    → Sound (announced s p total n) → At ring d (Line.announced n t) (running (announced s p total n) [])
+pub announced-by : {terms : Terms} (d : Configuration) (s : Show) (p : Past) (t total n : ℕ) → t ≡ total → Keeps (d .reader .fixed) s → Counts (d .reader .chain) p
+    → Sound (announced s p total n) → At terms d (Line.announced n t) (running (announced s p total n) [])
 announced-by d s p t total n e k c h = rw e (announced-at d s p total n k c h)
 
 -- before the first block
 pub none-before : (c : Chain) → c .number .0 ≡ 0 → Counts c nothing
 none-before c e = record { blocks = e; hash = rw e refl }
 
-module _ (ring : Ring) (fields : List Field) (d : Configuration) (x : ℕ) (lent : Lent d fields) (none : d .reader .released ≡ 0) where
+module _ (terms : Terms) (fields : List Field) (d : Configuration) (x : ℕ) (lent : Lent d fields) (none : d .reader .released ≡ 0) where
   module _ (s : Show) (k : Keeps (d .reader .fixed) s) (sound : SoundShow s) (zero-blocks : d .reader .chain .number .0 ≡ 0) (have : ℕ) (g : List ℕ) where
     abbrev l : List ℕ
     l = g ++ x ∷ []
@@ -64,7 +64,7 @@ module _ (ring : Ring) (fields : List Field) (d : Configuration) (x : ℕ) (lent
     lent′ q = still lent _ refl refl refl refl (length-set (d .reader .line) have x)
 
     answered : (fault : ℕ) → lineFault (s .size) false true 0 l ≡ fault → SoundSays (unlessBroken fault (linePlace l) (go (announced s nothing 0 (chunkSize l))))
-        → Follows ring fields (firstAnswered d′ (unlessFault fault l (goodLine (chunkSize l) (signatureOf l)) .answer))
+        → Follows terms fields (firstAnswered d′ (unlessFault fault l (goodLine (chunkSize l) (signatureOf l)) .answer))
         (ruling (unlessBroken fault (linePlace l) (go (announced s nothing 0 (chunkSize l)))))
     unfolding firstAnswered
     answered zero e h =
@@ -78,14 +78,14 @@ module _ (ring : Ring) (fields : List Field) (d : Configuration) (x : ℕ) (lent
 
     by : (N : ℕ) → N ≡ s .size → (t : Bool) → isWhole (C.firstLine s) l ≡ t → length l ≤ lineLimit
         → Gathered (set (d .reader .line) have x) (have + 1) l
-        → Follows ring fields (pick t (firstAnswered d′ (lineJudged N false true 0 l .answer)) (on d′)) (gathered (rules ring) t (C.firstLine s) l)
+        → Follows terms fields (pick t (firstAnswered d′ (lineJudged N false true 0 l .answer)) (on d′)) (gathered (rules terms) t (C.firstLine s) l)
     unfolding rules judge judgeFirstLine lineJudged
-    by N n true e m a = rw n (answered (lineFault (s .size) false true 0 l) refl (judge-sound ring (C.firstLine s) l sound e m))
+    by N n true e m a = rw n (answered (lineFault (s .size) false true 0 l) refl (judge-sound terms (C.firstLine s) l sound e m))
     by N n false e m a =
         F.on (record { stands = F.firstLine k sound zero-blocks a e; lent = lent′ _; taken = none })
 
     pub first-step : Gathered (d .reader .line) have g → isWhole (C.firstLine s) g ≡ false
-        → Follows ring fields (pushFirstLine d have x) (step (rules ring) (C.firstLine s) g x)
+        → Follows terms fields (pushFirstLine d have x) (step (rules terms) (C.firstLine s) g x)
     unfolding pushFirstLine firstGathered step rules isWhole
     first-step a e =
         let m : have < lineLimit = rw (a .count) at (short (C.firstLine s) g e) in
@@ -105,24 +105,24 @@ module _ (ring : Ring) (fields : List Field) (d : Configuration) (x : ℕ) (lent
     lent-after q = still lent _ refl refl (length-set (d .block) have x) refl refl
 
     closed-by : (t : Bool)
-        → Follows ring fields (pick t (D.stop (W.Closed total) noSignature (moved after (P.Closed total))) (refuse (placed 6 (trailerPlace text)) (have + 1) after))
+        → Follows terms fields (pick t (D.stop (W.Closed total) noSignature (moved after (P.Closed total))) (refuse (placed 6 (trailerPlace text)) (have + 1) after))
         (ruling (elim t [ true ↦ stop (closed total) | false ↦ stop (refused 6 (trailerPlace text)) ]))
     unfolding wordSeen
     closed-by true = F.says refl refl (record { stands = F.closed; lent = lent-after _; taken = none })
     closed-by false = refuses _ (have + 1) after (omega arith) (lent-after (P.Trailer (have + 1) total)) none
 
     trailer-by : (t : Bool) → isWhole (C.trailer total) text ≡ t → Gathered (set (d .block) have x) (have + 1) text
-        → Follows ring fields
+        → Follows terms fields
         (pick t
         (pick (isTrailer text) (D.stop (W.Closed total) noSignature (moved after (P.Closed total))) (refuse (placed 6 (trailerPlace text)) (have + 1) after))
         (on after))
-        (gathered (rules ring) t (C.trailer total) text)
+        (gathered (rules terms) t (C.trailer total) text)
     unfolding rules judge judgeTrailer
     trailer-by true e a = closed-by (isTrailer text)
     trailer-by false e a = F.on (record { stands = F.trailer most a e; lent = lent-after _; taken = none })
 
     pub trailer-step : Gathered (d .block) have g → isWhole (C.trailer total) g ≡ false
-        → Follows ring fields (pushTrailer d have total x) (step (rules ring) (C.trailer total) g x)
+        → Follows terms fields (pushTrailer d have total x) (step (rules terms) (C.trailer total) g x)
     unfolding pushTrailer trailerGathered step rules isWhole
     trailer-step a e =
         let m : have < headLimit = rw (a .count) at (short (C.trailer total) g e) in

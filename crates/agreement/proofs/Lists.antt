@@ -7,7 +7,7 @@ use borrow.Author.Tests.{leb-true}
 use lib.Dec.{leb}
 use lib.ListN.{length, length-replicate}
 use Rattle.octets.specs.Choice.{pick}
-use Rattle.ring.specs.Keys.{ringOf}
+use Rattle.ring.specs.Keys.{termsOf}
 use Rattle.ring.specs.declared.KeyRing.{KeyRing}
 use Rattle.sections.specs.Calls.{Request, feed, answer, end, misused}
 use Rattle.sections.specs.Calls as S
@@ -47,30 +47,30 @@ neither true e = e
 neither false e = refl
 
 -- REFUSAL 2: a loan that will not do changes nothing, whatever the reader
-pub misfit-unchanged : (r : Reader) (h b q : List ℕ) (keys : KeyRing) (k : Request) → loanFits h b q keys k ≡ false
-    → called keys (configuration r h b q) k ≡ unchanged 2 (configuration r h b q)
+pub misfit-unchanged : (r : Reader) (h b q : List ℕ) (keys : KeyRing) (uri : List ℕ) (k : Request) → loanFits h b q keys k ≡ false
+    → called keys uri (configuration r h b q) k ≡ unchanged 2 (configuration r h b q)
 unfolding loanFits feedOf answerOf endOf
-misfit-unchanged r h b q keys (feed piece) e = rw (loan-same h b q keys (feed piece) ∙ e)
-misfit-unchanged r h b q keys (answer good) e = rw (neither (areRoomy (length h) (length b) (length q)) (loan-same h b q keys (answer good) ∙ e))
-misfit-unchanged r h b q keys end e = rw (neither (areRoomy (length h) (length b) (length q)) (loan-same h b q keys end ∙ e))
+misfit-unchanged r h b q keys uri (feed piece) e = rw (loan-same h b q keys (feed piece) ∙ e)
+misfit-unchanged r h b q keys uri (answer good) e = rw (neither (areRoomy (length h) (length b) (length q)) (loan-same h b q keys (answer good) ∙ e))
+misfit-unchanged r h b q keys uri end e = rw (neither (areRoomy (length h) (length b) (length q)) (loan-same h b q keys end ∙ e))
 
-pub called-follows : (keys : KeyRing) (d : Configuration) (h : Handed) (s : Standing) (k : Request) → Holds (ringOf keys) d h s
-    → CallFollows (ringOf keys) h k (called keys d k) (turn (rules (ringOf keys)) s (S.call (ringFits keys k) k))
+pub called-follows : (keys : KeyRing) (uri : List ℕ) (d : Configuration) (h : Handed) (s : Standing) (k : Request) → Holds (termsOf keys uri) d h s
+    → CallFollows (termsOf keys uri) h k (called keys uri d k) (turn (rules (termsOf keys uri)) s (S.call (ringFits keys k) k))
 unfolding turn feedOf answerOf endOf
-called-follows keys d h s (feed piece) k = by (leb (keys .count) ringLimit) refl
+called-follows keys uri d h s (feed piece) k = by (leb (keys .count) ringLimit) refl
   where
     -- by what the loan is, whatever form the call is written in
     by : (t : Bool) → leb (keys .count) ringLimit ≡ t
-        → CallFollows (ringOf keys) h (feed piece) (called keys d (feed piece)) (turn (rules (ringOf keys)) s (S.call (ringFits keys (feed piece)) (feed piece)))
-    by true e = rw (roomy (k .lent), e) (feed-follows (ringOf keys) h d s piece k)
+        → CallFollows (termsOf keys uri) h (feed piece) (called keys uri d (feed piece)) (turn (rules (termsOf keys uri)) s (S.call (ringFits keys (feed piece)) (feed piece)))
+    by true e = rw (roomy (k .lent), e) (feed-follows (termsOf keys uri) h d s piece k)
     by false e = rw (roomy (k .lent), e) (unchanged-follows 2 d s refl k)
-called-follows keys d h s (answer good) k = rw (roomy (k .lent)) (answer-follows (ringOf keys) h d (d .reader .phase) s good k (k .stands))
-called-follows keys d h s end k = rw (roomy (k .lent)) (end-follows (ringOf keys) h d s k)
+called-follows keys uri d h s (answer good) k = rw (roomy (k .lent)) (answer-follows (termsOf keys uri) h d (d .reader .phase) s good k (k .stands))
+called-follows keys uri d h s end k = rw (roomy (k .lent)) (end-follows (termsOf keys uri) h d s k)
 
 -- a call with other buffers, which will not do, leaves ours as they are
-pub aside-unchanged : (d : Configuration) (h b q : List ℕ) (keys : KeyRing) (k : Request) → loanFits h b q keys k ≡ false
-    → aside keys d (configuration (d .reader) h b q) k ≡ unchanged 2 d
-aside-unchanged d h b q keys k e = rw (misfit-unchanged (d .reader) h b q keys k e)
+pub aside-unchanged : (d : Configuration) (h b q : List ℕ) (keys : KeyRing) (uri : List ℕ) (k : Request) → loanFits h b q keys k ≡ false
+    → aside keys uri d (configuration (d .reader) h b q) k ≡ unchanged 2 d
+aside-unchanged d h b q keys uri k e = rw (misfit-unchanged (d .reader) h b q keys uri k e)
 
 -- where the buffers are too short, every call is refused with 2 and nothing is handed out
 pub record Idle (d : Configuration) (h : Handed) : Type 0 where
@@ -84,10 +84,10 @@ idle-shown d h k = let f = k .handed in λ i. record { out = (misused 2, 0); blo
 
 -- ---- a list of calls, from a first loan of the buffers h₀, b₀ and q₀
 
-module _ (keys : KeyRing) (h₀ b₀ q₀ : List ℕ) where
+module _ (keys : KeyRing) (uri h₀ b₀ q₀ : List ℕ) where
   -- the reader beside the machine
   pub data Beside : Configuration → Handed → Standing → Type 0 where
-    fit : {d : Configuration} {h : Handed} {s : Standing} → haveRoom h₀ b₀ q₀ ≡ true → Holds (ringOf keys) d h s → Beside d h s
+    fit : {d : Configuration} {h : Handed} {s : Standing} → haveRoom h₀ b₀ q₀ ≡ true → Holds (termsOf keys uri) d h s → Beside d h s
     idle : {d : Configuration} {h : Handed} {s : Standing} → haveRoom h₀ b₀ q₀ ≡ false → Idle d h → Beside d h s
 
   pub record Goes (h : Handed) (r : Request) (c : R.Response) (t : Turn Context Question Release LastWord) : Type 0 where
@@ -95,30 +95,30 @@ module _ (keys : KeyRing) (h₀ b₀ q₀ : List ℕ) where
     pub beside : Beside (c .after) (handedAfter h r (t .0 .0)) (t .1)
 
   abbrev pub turned : Standing → Invocation → Turn Context Question Release LastWord
-  turned s k = turn (rules (ringOf keys)) s (plainCall keys h₀ b₀ q₀ k)
+  turned s k = turn (rules (termsOf keys uri)) s (plainCall keys h₀ b₀ q₀ k)
 
   pub call-goes : (d : Configuration) (h : Handed) (s : Standing) (k : Invocation) → Beside d h s
-      → Goes h (request (plainCall keys h₀ b₀ q₀ k)) (runCall keys d k) (turned s k)
+      → Goes h (request (plainCall keys h₀ b₀ q₀ k)) (runCall keys uri d k) (turned s k)
   unfolding turn runCall loanFits
   call-goes d h s (same k) (fit e v) =
-      let c = called-follows keys d h s k v in
+      let c = called-follows keys uri d h s k v in
       rw e (record { shown = c .same; beside = fit e (c .holds) })
   call-goes d h s (same k) (idle e v) =
-      rw (e, misfit-unchanged (d .reader) (d .head) (d .block) (d .question) keys k (rw (v .short) refl))
+      rw (e, misfit-unchanged (d .reader) (d .head) (d .block) (d .question) keys uri k (rw (v .short) refl))
       (record { shown = idle-shown d h v; beside = idle e v })
-  call-goes d h s (other h′ b′ q′ keys′ k m) (fit e v) =
+  call-goes d h s (other h′ b′ q′ keys′ uri′ k m) (fit e v) =
       let c = unchanged-follows {r = k} 2 d s refl v in
-      rw (aside-unchanged d h′ b′ q′ keys′ k m) (record { shown = c .same; beside = fit e (c .holds) })
-  call-goes d h s (other h′ b′ q′ keys′ k m) (idle e v) =
-      rw (aside-unchanged d h′ b′ q′ keys′ k m) (record { shown = idle-shown d h v; beside = idle e v })
+      rw (aside-unchanged d h′ b′ q′ keys′ uri′ k m) (record { shown = c .same; beside = fit e (c .holds) })
+  call-goes d h s (other h′ b′ q′ keys′ uri′ k m) (idle e v) =
+      rw (aside-unchanged d h′ b′ q′ keys′ uri′ k m) (record { shown = idle-shown d h v; beside = idle e v })
 
   calls-go : (ks : List Invocation) (d : Configuration) (h : Handed) (s : Standing) → Beside d h s
-      → runFrom keys d ks ≡ traceFrom h (plainCalls keys h₀ b₀ q₀ ks) (M.runFrom (rules (ringOf keys)) s (plainCalls keys h₀ b₀ q₀ ks))
+      → runFrom keys uri d ks ≡ traceFrom h (plainCalls keys h₀ b₀ q₀ ks) (M.runFrom (rules (termsOf keys uri)) s (plainCalls keys h₀ b₀ q₀ ks))
   unfolding runFrom M.runFrom traceFrom plainCalls
   calls-go [] d h s v = refl
   calls-go (k ∷ ks) d h s v =
       let g = call-goes d h s k v in
-      λ i. g .shown i ∷ calls-go ks (runCall keys d k .after) (handedAfter h (request (plainCall keys h₀ b₀ q₀ k)) (turned s k .0 .0)) (turned s k .1) (g .beside) i
+      λ i. g .shown i ∷ calls-go ks (runCall keys uri d k .after) (handedAfter h (request (plainCall keys h₀ b₀ q₀ k)) (turned s k .0 .0)) (turned s k .1) (g .beside) i
 
   pub fresh-beside : (t : Bool) → haveRoom h₀ b₀ q₀ ≡ t → Beside (configuration freshReader h₀ b₀ q₀) nothing (running C.head [])
   unfolding freshReader haveRoom blockPart
@@ -143,8 +143,8 @@ module _ (keys : KeyRing) (h₀ b₀ q₀ : List ℕ) where
       none false = refl
 
   -- THE RUN: what a caller sees of the reader's calls is what the plain reading shows of them
-  pub run-shown : (ks : List Invocation) → run keys h₀ b₀ q₀ ks ≡ plainTrace (ringOf keys) (plainCalls keys h₀ b₀ q₀ ks)
+  pub run-shown : (ks : List Invocation) → run keys uri h₀ b₀ q₀ ks ≡ plainTrace (termsOf keys uri) (plainCalls keys h₀ b₀ q₀ ks)
   unfolding run runCalls plainTrace
   run-shown ks =
       calls-go ks (configuration freshReader h₀ b₀ q₀) nothing (running C.head []) (fresh-beside (haveRoom h₀ b₀ q₀) refl)
-      ∙ ap (traceFrom nothing (plainCalls keys h₀ b₀ q₀ ks)) (calls-agree (rules (ringOf keys)) C.head (plainCalls keys h₀ b₀ q₀ ks))
+      ∙ ap (traceFrom nothing (plainCalls keys h₀ b₀ q₀ ks)) (calls-agree (rules (termsOf keys uri)) C.head (plainCalls keys h₀ b₀ q₀ ks))

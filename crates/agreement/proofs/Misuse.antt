@@ -2,10 +2,12 @@
 -- these numbers. Assumes nothing.
 use mathlib.Core.Path.{_≡_, refl, sym, _∙_}
 use mathlib.Core.Bool.{Bool, true, false, true≢false}
+use mathlib.Core.List.{List}
+use Prim.Native.Nat.{ℕ}
 use native.Mathlib.Omega.{arith}
 use Rattle.octets.specs.Choice.{pick}
 use Rattle.refusals.specs.Refusals.{plain}
-use Rattle.ring.specs.Keys.{ringOf}
+use Rattle.ring.specs.Keys.{termsOf}
 use Rattle.ring.specs.declared.KeyRing.{KeyRing}
 use Rattle.sections.specs.Calls.{Request, feed, answer, end}
 use Rattle.stream.proofs.Truth.{left-holds}
@@ -58,13 +60,13 @@ answer-early d (P.Trailer have total) good e = refl
 answer-early d (P.Closed total) good e = refl
 answer-early d (P.Refused n) good e = refl
 
-module _ (keys : KeyRing) (d : Configuration) where
+module _ (keys : KeyRing) (uri : List ℕ) (d : Configuration) where
   roomy-of : (r : Request) → loanFits (d .head) (d .block) (d .question) keys r ≡ true → fits d ≡ true
   roomy-of r e = left-holds (fits d) _ (loan-same (d .head) (d .block) (d .question) keys r ∙ e)
 
   -- REFUSAL 1
   pub undue-unchanged : (r : Request) → loanFits (d .head) (d .block) (d .question) keys r ≡ true → isDue (d .reader .phase) r ≡ false
-      → called keys d r ≡ unchanged 1 d
+      → called keys uri d r ≡ unchanged 1 d
   unfolding feedOf answerOf endOf
   undue-unchanged (feed piece) f e = rw (loan-same (d .head) (d .block) (d .question) keys (feed piece) ∙ f, e)
   undue-unchanged (answer good) f e = rw (roomy-of (answer good) f) (answer-early d (d .reader .phase) good e)
@@ -72,8 +74,8 @@ module _ (keys : KeyRing) (d : Configuration) where
 
   -- no other call has these numbers
   pub due-fine : (r : Request) → loanFits (d .head) (d .block) (d .question) keys r ≡ true → isDue (d .reader .phase) r ≡ true
-      → isMisuse (called keys d r .word) ≡ false
+      → isMisuse (called keys uri d r .word) ≡ false
   unfolding feedOf answerOf endOf takenFrom
-  due-fine (feed piece) f e = rw (loan-same (d .head) (d .block) (d .question) keys (feed piece) ∙ f, e) (fine-run (ringOf keys) (recalled d) 0 piece e)
+  due-fine (feed piece) f e = rw (loan-same (d .head) (d .block) (d .question) keys (feed piece) ∙ f, e) (fine-run (termsOf keys uri) (recalled d) 0 piece e)
   due-fine (answer good) f e = rw (roomy-of (answer good) f) (fine-answer d (d .reader .phase) good e)
   due-fine end f e = rw (roomy-of end f, e) (given-fine (refuse (plain 11) (pending (d .reader .phase)) (recalled d)) (fine-refuse _ (pending (d .reader .phase)) (recalled d) (omega arith)))

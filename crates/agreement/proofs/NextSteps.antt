@@ -20,9 +20,9 @@ use Rattle.stream.specs.Blocks.{isWholeLine, carriesSignature, chunkSize, lineS
 use Rattle.stream.specs.Limits.{lineLimit, bodyLimit}
 use Rattle.stream.specs.Lines.{Field}
 use Rattle.stream.specs.Places.{linePlace}
-use Rattle.stream.specs.Ring.{Ring}
 use Rattle.stream.specs.Stream.{Show, Past, isWhole, unlessBroken, judge, blockOffset, bodyWith, blockQuestion, acceptBlock, judgeNextLine, rules}
 use Rattle.stream.specs.Stream as C
+use Rattle.stream.specs.Terms.{Terms}
 use Rattle.stream.proofs.MessageLaws.{message-length}
 use Rattle.stream.proofs.RulesHold.{rules-hold}
 use Rattle.stream.proofs.Sound.{SoundBlock}
@@ -65,7 +65,7 @@ carries : (N : ℕ) (full : Bool) (sofar : ℕ) (l : List ℕ) → lineFault N t
 unfolding lineFault lineRules
 carries N full sofar l e = rules-hold (lineRules N true full sofar l) refl e .1 .0
 
-module _ (ring : Ring) (fields : List Field) (d : Configuration) (x : ℕ) (lent : Lent d fields) (none : d .reader .released ≡ 0)
+module _ (terms : Terms) (fields : List Field) (d : Configuration) (x : ℕ) (lent : Lent d fields) (none : d .reader .released ≡ 0)
     (s : Show) (p : Past) (size : ℕ) (b : List ℕ) (u : Under d s p size b) (have : ℕ) (g : List ℕ) where
   abbrev l : List ℕ
   l = g ++ x ∷ []
@@ -108,7 +108,7 @@ module _ (ring : Ring) (fields : List Field) (d : Configuration) (x : ℕ) (lent
       rw z (λ i. event (question (record { message = m i; signature = t i; keyNumber = n i })))
 
   question-follows : lineFault (s .size) true (eqb (length b) (s .size)) (bodyWith s p b) l ≡ 0 → SoundSays (acceptBlock s p b l)
-      → Follows ring fields (Line.asked d′ size (chunkSize l) (signatureOf l)) (ruling (acceptBlock s p b l))
+      → Follows terms fields (Line.asked d′ size (chunkSize l) (signatureOf l)) (ruling (acceptBlock s p b l))
   unfolding Line.asked acceptBlock
   question-follows e h =
       F.says (seen-is (carries (s .size) (eqb (length b) (s .size)) (bodyWith s p b) l e) _ refl) refl
@@ -130,7 +130,7 @@ module _ (ring : Ring) (fields : List Field) (d : Configuration) (x : ℕ) (lent
 
   answered : (fault : ℕ) → lineFault (s .size) true (eqb (length b) (s .size)) (bodyWith s p b) l ≡ fault
       → SoundSays (unlessBroken fault (linePlace l) (acceptBlock s p b l))
-      → Follows ring fields
+      → Follows terms fields
       (nextAnswered d′ size (unlessFault fault l (goodLine (chunkSize l) (signatureOf l)) .answer) (unlessFault fault l (goodLine (chunkSize l) (signatureOf l)) .signature))
       (ruling (unlessBroken fault (linePlace l) (acceptBlock s p b l)))
   unfolding nextAnswered
@@ -146,17 +146,17 @@ module _ (ring : Ring) (fields : List Field) (d : Configuration) (x : ℕ) (lent
       λ i. lineJudged (u .keeps .size i) true (eqb (n i) (u .keeps .size i)) (e i) l
 
   by : (t : Bool) → isWhole (C.nextLine s p b) l ≡ t → length l ≤ lineLimit → Gathered (set (d .reader .line) have x) (have + 1) l
-      → Follows ring fields
+      → Follows terms fields
       (pick t (nextAnswered d′ size (nextJudged (d′ .reader) size l .answer) (nextJudged (d′ .reader) size l .signature)) (on d′))
-      (gathered (rules ring) t (C.nextLine s p b) l)
+      (gathered (rules terms) t (C.nextLine s p b) l)
   unfolding rules judge judgeNextLine lineJudged
   by true e m a =
       rw judged-is
-      (answered (lineFault (s .size) true (eqb (length b) (s .size)) (bodyWith s p b) l) refl (judge-sound ring (C.nextLine s p b) l (u .sound) e m))
+      (answered (lineFault (s .size) true (eqb (length b) (s .size)) (bodyWith s p b) l) refl (judge-sound terms (C.nextLine s p b) l (u .sound) e m))
   by false e m a = F.on (record { stands = F.nextLine (under-on _ _ _ refl refl u) a e; lent = lent′; taken = none })
 
   pub next-step : Gathered (d .reader .line) have g → isWhole (C.nextLine s p b) g ≡ false
-      → Follows ring fields (pushNextLine d have size x) (step (rules ring) (C.nextLine s p b) g x)
+      → Follows terms fields (pushNextLine d have size x) (step (rules terms) (C.nextLine s p b) g x)
   unfolding pushNextLine nextGathered step rules isWhole
   next-step a e =
       let m : have < lineLimit = rw (a .count) at (short (C.nextLine s p b) g e) in

@@ -1,23 +1,21 @@
 -- A final refusal of the reader is one of the machine: no rule of the paper has the number 1 or 2. Assumes nothing.
 use mathlib.Core.Path.{_≡_, refl}
-use mathlib.Core.Bool.{Bool, true, false, _&&_}
-use mathlib.Core.List.{List, [], _∷_, _++_}
+use mathlib.Core.Bool.{Bool, false}
+use mathlib.Core.List.{List, _++_}
 use Prim.Native.Nat.{ℕ, suc, _≤_}
 use native.Mathlib.Omega.{arith}
 use borrow.Author.Tests.{leb-true, ne-eqb}
 use lib.Dec.{leb}
-use Rattle.octets.specs.Choice.{pick}
 use Rattle.sections.specs.Reading.{last}
 use Rattle.sections.specs.Calls.{isOfCall, event}
 use Rattle.sections.specs.Machine.{finished, decides}
 use Rattle.refusals.specs.declared.Refusal.{Refusal}
 use Rattle.stream.specs.Blocks.{lineRules, lineFault}
 use Rattle.stream.specs.Events.{refused}
-use Rattle.stream.specs.Head.{headOf, textRules, trustRules, headFault}
+use Rattle.stream.specs.Head.{headOf, textRules, callerRules, headFault}
 use Rattle.stream.specs.Lines.{Field}
-use Rattle.stream.specs.Ring.{Ring}
-use Rattle.stream.specs.Rule.{Rule, firstBroken}
-use Rattle.stream.proofs.Truth.{left-holds, right-holds}
+use Rattle.stream.specs.Terms.{Terms}
+use Rattle.stream.proofs.RulesHold.{broken-numbered}
 use Rattle.state.specs.Configuration.{Configuration, refuse}
 use Rattle.state.specs.declared.word.Word.the-variants as W
 use Rattle.state.proofs.BufferLaws.{length-cleared}
@@ -28,27 +26,13 @@ use Rattle.agreement.proofs.Gathering.{still}
 
 -- ---- numbers
 
--- every rule has the number m or a higher one
-abbrev allFrom : ℕ → List Rule → Bool
-allFrom m [] = true
-allFrom m (r ∷ rs) = leb m (r .number) && allFrom m rs
-
-broken-from : (m : ℕ) (rs : List Rule) → allFrom m rs ≡ true → 1 ≤ firstBroken rs → m ≤ firstBroken rs
-unfolding firstBroken
-broken-from m [] e h = absurd (omega arith)
-broken-from m (r ∷ rs) e h = by (r .holds) h (broken-from m rs (right-holds (leb m (r .number)) (allFrom m rs) e))
-  where
-    by : (t : Bool) → 1 ≤ pick t (firstBroken rs) (r .number) → (1 ≤ firstBroken rs → m ≤ firstBroken rs) → m ≤ pick t (firstBroken rs) (r .number)
-    by true k ih = ih k
-    by false k ih = leb-true m (r .number) (left-holds (leb m (r .number)) (allFrom m rs) e)
-
 pub line-number : (N : ℕ) (due full : Bool) (sofar : ℕ) (l : List ℕ) (k : ℕ) → lineFault N due full sofar l ≡ suc k → 3 ≤ suc k
 unfolding lineFault lineRules
-line-number N due full sofar l k e = rw e at (broken-from 3 (lineRules N due full sofar l) refl (rw e (omega arith)))
+line-number N due full sofar l k e = leb-true 3 (suc k) (broken-numbered (leb 3) (lineRules N due full sofar l) k refl e)
 
-pub head-number : (ring : Ring) (l : List ℕ) (k : ℕ) → headFault ring l ≡ suc k → 3 ≤ suc k
-unfolding headFault textRules trustRules
-head-number ring l k e = rw e at (broken-from 3 (textRules l (headOf l) ++ trustRules ring (headOf l)) refl (rw e (omega arith)))
+pub head-number : (terms : Terms) (l : List ℕ) (k : ℕ) → headFault terms l ≡ suc k → 3 ≤ suc k
+unfolding headFault textRules callerRules
+head-number terms l k e = leb-true 3 (suc k) (broken-numbered (leb 3) (textRules l (headOf l) ++ callerRules terms (headOf l)) k refl e)
 
 -- ---- the refusal
 
@@ -60,8 +44,8 @@ pub seen-final : (why : Refusal) (signature : List ℕ) (d : Configuration) → 
 unfolding wordSeen
 seen-final why signature d h = rw (of-stream (why .number) h)
 
-pub refuses : {ring : Ring} {fields : List Field} (why : Refusal) (count : ℕ) (d : Configuration) → 3 ≤ why .number → Lent d fields → d .reader .released ≡ 0
-    → Follows ring fields (refuse why count d) (decides (last (refused (why .number) (why .at))) finished)
+pub refuses : {terms : Terms} {fields : List Field} (why : Refusal) (count : ℕ) (d : Configuration) → 3 ≤ why .number → Lent d fields → d .reader .released ≡ 0
+    → Follows terms fields (refuse why count d) (decides (last (refused (why .number) (why .at))) finished)
 unfolding refuse
 refuses why count d h l z =
     F.says (seen-final why _ _ h) refl

@@ -9,7 +9,7 @@ use Rattle.octets.specs.Choice.{pick}
 use Rattle.chunk.specs.declared.judging.LineAnswer.{LineAnswer}
 use Rattle.chunk.specs.declared.judging.LineAnswer.the-variants as A
 use Rattle.refusals.specs.declared.Refusal.{Refusal}
-use Rattle.ring.specs.Keys.{ringOf}
+use Rattle.ring.specs.Keys.{termsOf}
 use Rattle.ring.specs.declared.KeyRing.{KeyRing}
 use Rattle.sections.specs.Calls.{Request, feed, answer, end}
 use Rattle.stream.specs.Blocks.{isWholeLine}
@@ -17,10 +17,10 @@ use Rattle.stream.specs.Bytes.{same}
 use Rattle.stream.specs.Head.{isWholeHead}
 use Rattle.stream.specs.Limits.{lineLimit, ringLimit}
 use Rattle.stream.specs.Lines.{crlf}
-use Rattle.stream.specs.Ring.{Ring}
+use Rattle.stream.specs.Terms.{Terms}
 use Rattle.stream.specs.Trailer.{isWholeTrailer, isTrailer}
-use Rattle.signing.specs.declared.judging.HeadAnswer.{HeadAnswer}
-use Rattle.signing.specs.declared.judging.HeadAnswer.the-variants as H
+use Rattle.judging.specs.declared.HeadAnswer.{HeadAnswer}
+use Rattle.judging.specs.declared.HeadAnswer.the-variants as H
 use Rattle.state.specs.Configuration.{Configuration, Next, on, stop, noSignature, pending, refuse}
 use Rattle.state.specs.Run.{follow, runOf}
 use Rattle.state.specs.declared.phase.Phase.{Phase}
@@ -67,28 +67,28 @@ unfolding headAnswered
 unsigned-head d n (H.Refused k) signature id = unsigned-refuse k 0 d
 unsigned-head d n (H.Asks status size key idLength length) signature id = λ e. absurd (true≢false e)
 
-unsigned-push : (ring : Ring) (d : Configuration) (p : Phase) (x : ℕ) → Unsigned (pushAt ring p d x)
+unsigned-push : (terms : Terms) (d : Configuration) (p : Phase) (x : ℕ) → Unsigned (pushAt terms p d x)
 unfolding pushAt pushHead headGathered pushData pushDataEnd pushFirstLine firstGathered pushNextLine nextGathered pushTrailer trailerGathered
-unsigned-push ring d (P.Head have) x =
+unsigned-push terms d (P.Head have) x =
     unsigned-pick (leb (length (d .head)) have) _ _ (unsigned-refuse _ 0 d)
     (unsigned-pick (isWholeHead (take (have + 1) (set (d .head) have x))) _ _ (unsigned-head _ (have + 1) _ _ _) tt)
-unsigned-push ring d (P.HeadAsked n) x = λ e. refl
-unsigned-push ring d (P.FirstLine have) x =
+unsigned-push terms d (P.HeadAsked n) x = λ e. refl
+unsigned-push terms d (P.FirstLine have) x =
     unsigned-pick (leb lineLimit have) _ _ (unsigned-refuse _ 0 d)
     (unsigned-pick (isWholeLine (take (have + 1) (set (d .reader .line) have x))) _ _ (unsigned-first _ _) tt)
-unsigned-push ring d (P.Data have size) x = unsigned-pick (leb (length (d .block)) have) _ _ (unsigned-refuse _ have d) tt
-unsigned-push ring d (P.DataEnd have size) x =
+unsigned-push terms d (P.Data have size) x = unsigned-pick (leb (length (d .block)) have) _ _ (unsigned-refuse _ have d) tt
+unsigned-push terms d (P.DataEnd have size) x =
     unsigned-pick (eqb have 0) _ _ tt (unsigned-pick (same (getD (d .reader .line) 0 0 ∷ x ∷ []) crlf) _ _ tt (unsigned-refuse _ size d))
-unsigned-push ring d (P.NextLine have size) x =
+unsigned-push terms d (P.NextLine have size) x =
     unsigned-pick (leb lineLimit have) _ _ (unsigned-refuse _ size d)
     (unsigned-pick (isWholeLine (take (have + 1) (set (d .reader .line) have x))) _ _ (unsigned-next _ size _ _) tt)
-unsigned-push ring d (P.BlockAsked size next) x = λ e. refl
-unsigned-push ring d (P.Trailer have total) x =
+unsigned-push terms d (P.BlockAsked size next) x = λ e. refl
+unsigned-push terms d (P.Trailer have total) x =
     let text = take (have + 1) (set (d .block) have x) in
     unsigned-pick (leb (length (d .block)) have) _ _ (unsigned-refuse _ have d)
     (unsigned-pick (isWholeTrailer text) _ _ (unsigned-pick (isTrailer text) _ _ (λ e. refl) (unsigned-refuse _ (have + 1) _)) tt)
-unsigned-push ring d (P.Closed total) x = λ e. refl
-unsigned-push ring d (P.Refused n) x = λ e. refl
+unsigned-push terms d (P.Closed total) x = λ e. refl
+unsigned-push terms d (P.Refused n) x = λ e. refl
 
 -- ---- a call
 
@@ -99,13 +99,13 @@ call-pick : (t : Bool) (c e : R.Response) → UnsignedCall c → UnsignedCall e 
 call-pick true c e a b = a
 call-pick false c e a b = b
 
-unsigned-run : (ring : Ring) (d : Configuration) (t : ℕ) (xs : List ℕ) → UnsignedCall (fed (runOf (pushByte ring) d t xs))
+unsigned-run : (terms : Terms) (d : Configuration) (t : ℕ) (xs : List ℕ) → UnsignedCall (fed (runOf (pushByte terms) d t xs))
 unfolding runOf
-unsigned-run ring d t [] = λ e. refl
-unsigned-run ring d t (x ∷ xs) = by (pushByte ring d x) (unsigned-push ring d (d .reader .phase) x) (λ d′. unsigned-run ring d′ (t + 1) xs)
+unsigned-run terms d t [] = λ e. refl
+unsigned-run terms d t (x ∷ xs) = by (pushByte terms d x) (unsigned-push terms d (d .reader .phase) x) (λ d′. unsigned-run terms d′ (t + 1) xs)
   where
-    by : (n : Next) → Unsigned n → ((d′ : Configuration) → UnsignedCall (fed (runOf (pushByte ring) d′ (t + 1) xs)))
-        → UnsignedCall (fed (follow n (t + 1) (λ d′. runOf (pushByte ring) d′ (t + 1) xs)))
+    by : (n : Next) → Unsigned n → ((d′ : Configuration) → UnsignedCall (fed (runOf (pushByte terms) d′ (t + 1) xs)))
+        → UnsignedCall (fed (follow n (t + 1) (λ d′. runOf (pushByte terms) d′ (t + 1) xs)))
     by (on d′) u ih = ih d′
     by (stop w signature d′) u ih = u
 
@@ -127,15 +127,15 @@ unsigned-answer d (P.Closed total) good = λ e. refl
 unsigned-answer d (P.Refused n) good = λ e. refl
 
 -- NO OTHER WORD comes with anything but zeros.
-pub unsigned-call : (keys : KeyRing) (d : Configuration) (r : Request) → isQuestion (called keys d r .word) ≡ false → called keys d r .signature ≡ noSignature
+pub unsigned-call : (keys : KeyRing) (uri : List ℕ) (d : Configuration) (r : Request) → isQuestion (called keys uri d r .word) ≡ false → called keys uri d r .signature ≡ noSignature
 unfolding feedOf takenFrom answerOf endOf
-unsigned-call keys d (feed piece) = by (fits d) refl (leb (keys .count) ringLimit) refl
+unsigned-call keys uri d (feed piece) = by (fits d) refl (leb (keys .count) ringLimit) refl
   where
     -- by what the loan is, whatever form the call is written in
-    by : (t : Bool) → fits d ≡ t → (u : Bool) → leb (keys .count) ringLimit ≡ u → UnsignedCall (called keys d (feed piece))
-    by true e true f = rw (e, f) (call-pick (isReading (d .reader .phase)) _ _ (unsigned-run (ringOf keys) (recalled d) 0 piece) (λ x. refl))
+    by : (t : Bool) → fits d ≡ t → (u : Bool) → leb (keys .count) ringLimit ≡ u → UnsignedCall (called keys uri d (feed piece))
+    by true e true f = rw (e, f) (call-pick (isReading (d .reader .phase)) _ _ (unsigned-run (termsOf keys uri) (recalled d) 0 piece) (λ x. refl))
     by true e false f = rw (e, f) (λ x. refl)
     by false e u f = rw e (λ x. refl)
-unsigned-call keys d (answer good) = call-pick (fits d) _ _ (unsigned-answer d (d .reader .phase) good) (λ e. refl)
-unsigned-call keys d end =
+unsigned-call keys uri d (answer good) = call-pick (fits d) _ _ (unsigned-answer d (d .reader .phase) good) (λ e. refl)
+unsigned-call keys uri d end =
     call-pick (fits d) _ _ (call-pick (isReading (d .reader .phase)) _ _ (given-unsigned _ (pending (d .reader .phase)) (recalled d)) (λ e. refl)) (λ e. refl)

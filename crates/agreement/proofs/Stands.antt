@@ -16,9 +16,9 @@ use Rattle.stream.specs.Head.{headOf, statusDigits, signedOf, headFault}
 use Rattle.stream.specs.Limits.{headLimit, lineLimit, blockLimit, bodyLimit}
 use Rattle.stream.specs.Lines.{Field}
 use Rattle.stream.specs.Numbers.{decimalValue}
-use Rattle.stream.specs.Ring.{Ring}
 use Rattle.stream.specs.Stream.{Show, Past, after, Context, isWhole, announced, showOf, blockOffset, bodyWith}
 use Rattle.stream.specs.Stream as C
+use Rattle.stream.specs.Terms.{Terms}
 use Rattle.stream.proofs.Sound.{SoundShow, SoundBlock, Sound}
 use Rattle.handing.specs.Handing.{handedFields}
 use Rattle.state.specs.Configuration.{Configuration, Next}
@@ -69,13 +69,13 @@ pub record Under (d : Configuration) (s : Show) (p : Past) (size : ℕ) (b : Lis
   pub sound : SoundBlock s p (length b)
   pub bytes : Gathered (d .block) size b
 
-module _ (ring : Ring) (d : Configuration) where
+module _ (terms : Terms) (d : Configuration) where
   -- the head of the n bytes l is good, and its question open
   pub record HeadAsked (n : ℕ) (l : List ℕ) : Type 0 where
     pub bytes : Gathered (d .head) n l
-    pub good : headFault ring l ≡ 0
-    pub sound : SoundShow (showOf ring (headOf l))
-    pub keeps : Keeps (d .reader .fixed) (showOf ring (headOf l))
+    pub good : headFault terms l ≡ 0
+    pub sound : SoundShow (showOf (terms .ring) (headOf l))
+    pub keeps : Keeps (d .reader .fixed) (showOf (terms .ring) (headOf l))
     pub status : d .reader .fixed .status ≡ decimalValue (statusDigits (headOf l))
     pub none : d .reader .chain .number .0 ≡ 0
     pub taken : d .reader .released ≡ 0
@@ -91,7 +91,7 @@ module _ (ring : Ring) (d : Configuration) where
 
   -- what a yes to either gives
   abbrev pub headGrant : List ℕ → Grant Context Release LastWord
-  headGrant l = granted (headAccepted (decimalValue (statusDigits (headOf l))) (signedOf (headOf l))) (C.firstLine (showOf ring (headOf l)))
+  headGrant l = granted (headAccepted (decimalValue (statusDigits (headOf l))) (signedOf (headOf l))) (C.firstLine (showOf (terms .ring) (headOf l)))
 
   abbrev pub blockGrant : Show → Past → ℕ → List ℕ → Grant Context Release LastWord
   blockGrant s p next b = granted (block (blockOffset s p) b) (announced s (after p b) (bodyWith s p b) next)
@@ -115,14 +115,14 @@ module _ (ring : Ring) (d : Configuration) where
     refused : {n : ℕ} → At (P.Refused n) finished
 
 -- the reader and its buffers stand for the state
-abbrev pub Stands : Ring → Configuration → Standing → Type 0
-Stands ring d s = At ring d (d .reader .phase) s
+abbrev pub Stands : Terms → Configuration → Standing → Type 0
+Stands terms d s = At terms d (d .reader .phase) s
 
 -- ---- while bytes are taken
 
 -- and no block is handed out
-pub record Reads (ring : Ring) (fields : List Field) (d : Configuration) (s : Standing) : Type 0 where
-  pub stands : Stands ring d s
+pub record Reads (terms : Terms) (fields : List Field) (d : Configuration) (s : Standing) : Type 0 where
+  pub stands : Stands terms d s
   pub lent : Lent d fields
   pub taken : d .reader .released ≡ 0
 
@@ -133,8 +133,8 @@ isRelease (message e) = true
 isRelease (last l) = false
 
 -- what a byte does to the reader is what it does to the machine
-pub data Follows (ring : Ring) (fields : List Field) : Next → Step Context Question Release LastWord → Type 0 where
-  on : {d : Configuration} {c : Context} {g : List ℕ} → Reads ring fields d (running c g) → Follows ring fields (D.on d) (M.on c g)
+pub data Follows (terms : Terms) (fields : List Field) : Next → Step Context Question Release LastWord → Type 0 where
+  on : {d : Configuration} {c : Context} {g : List ℕ} → Reads terms fields d (running c g) → Follows terms fields (D.on d) (M.on c g)
   says : {d : Configuration} {s : Standing} {w : Code.Word} {signature : List ℕ} {e : Event Question Release LastWord}
-      → wordSeen w signature d ≡ event (toldEvent e) → isRelease e ≡ false → Reads ring fields d s
-      → Follows ring fields (D.stop w signature d) (M.decides e s)
+      → wordSeen w signature d ≡ event (toldEvent e) → isRelease e ≡ false → Reads terms fields d s
+      → Follows terms fields (D.stop w signature d) (M.decides e s)

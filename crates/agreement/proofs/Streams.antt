@@ -11,8 +11,8 @@ use Rattle.sections.specs.Resuming.{heard, request, Resumes, entry, placed, eve
 use Rattle.sections.proofs.Cutting.{calls-agree, stream-agrees}
 use Rattle.sections.proofs.Histories.{run-took}
 use Rattle.stream.specs.Events.{Question, Release, LastWord}
-use Rattle.stream.specs.Ring.{Ring}
 use Rattle.stream.specs.Stream.{Context, head, rules, plainReading}
+use Rattle.stream.specs.Terms.{Terms}
 use Rattle.agreement.specs.Observation.{Told, outs}
 use Rattle.agreement.specs.Plain.{toldEvent, toldWord, toldLog, Handed, nothing, handedAfter, traceFrom, plainTrace}
 
@@ -24,13 +24,13 @@ abbrev pub toldOuts : Outs → List (Out Question Told LastWord)
 toldOuts [] = []
 toldOuts (o ∷ os) = (toldWord (o .0), o .1) ∷ toldOuts os
 
-outs-told : (ring : Ring) (ks : List Call) (h : Handed) (s : State Context Release LastWord)
-    → outs (traceFrom h ks (runFrom (rules ring) s ks)) ≡ toldOuts (runFrom (rules ring) s ks)
+outs-told : (terms : Terms) (ks : List Call) (h : Handed) (s : State Context Release LastWord)
+    → outs (traceFrom h ks (runFrom (rules terms) s ks)) ≡ toldOuts (runFrom (rules terms) s ks)
 unfolding outs traceFrom runFrom
-outs-told ring [] h s = refl
-outs-told ring (k ∷ ks) h s =
-    let t = turn (rules ring) s k in
-    λ i. (toldWord (t .0 .0), t .0 .1) ∷ outs-told ring ks (handedAfter h (request k) (t .0 .0)) (t .1) i
+outs-told terms [] h s = refl
+outs-told terms (k ∷ ks) h s =
+    let t = turn (rules terms) s k in
+    λ i. (toldWord (t .0 .0), t .0 .1) ∷ outs-told terms ks (handedAfter h (request k) (t .0 .0)) (t .1) i
 
 heard-told : (w : Reply Question Release LastWord) → heard (toldWord w) ≡ heard w
 heard-told more = refl
@@ -95,32 +95,32 @@ tracks-told {log} {whole} t =
       complete = λ e. ap toldLog (t .complete (sym (standing-told log) ∙ e));
     }
 
-pub outs-run : (ring : Ring) (ks : List Call) → outs (traceFrom nothing ks (readCalls (rules ring) head ks)) ≡ toldOuts (runCalls (rules ring) head ks)
+pub outs-run : (terms : Terms) (ks : List Call) → outs (traceFrom nothing ks (readCalls (rules terms) head ks)) ≡ toldOuts (runCalls (rules terms) head ks)
 unfolding runCalls
-outs-run ring ks = rw (← calls-agree (rules ring) head ks) (outs-told ring ks nothing (running head []))
+outs-run terms ks = rw (← calls-agree (rules terms) head ks) (outs-told terms ks nothing (running head []))
 
 -- THE STREAM: where the pieces go on through the stream S from the first byte not taken, and the end is told only once all is taken,
 -- what is shown of the events, with their places, is a beginning of the plain reading of S, and all of it once a last word has come
-pub shown-tracks : (ring : Ring) (S : List ℕ) (ks : List Call) → Resumes S ks (outs (plainTrace ring ks))
-    → Tracks (events (outs (plainTrace ring ks))) (toldLog (plainReading ring S (answersHeard ks (outs (plainTrace ring ks))) true))
+pub shown-tracks : (terms : Terms) (S : List ℕ) (ks : List Call) → Resumes S ks (outs (plainTrace terms ks))
+    → Tracks (events (outs (plainTrace terms ks))) (toldLog (plainReading terms S (answersHeard ks (outs (plainTrace terms ks))) true))
 unfolding plainTrace plainReading
-shown-tracks ring S ks r =
-    let os = runCalls (rules ring) head ks in
-    let e = outs-run ring ks in
+shown-tracks terms S ks r =
+    let os = runCalls (rules terms) head ks in
+    let e = outs-run terms ks in
     let c : Resumes S ks (toldOuts os) = rw e at r in
-    rw (e, answers-told ks os, placed-told 0 os) (tracks-told (stream-agrees (rules ring) head S ks (resumes-told S ks os c)))
+    rw (e, answers-told ks os, placed-told 0 os) (tracks-told (stream-agrees (rules terms) head S ks (resumes-told S ks os c)))
 
 -- WHAT WAS TAKEN: the events shown are the plain reading of the bytes taken, the answers heard and the end told.
-pub shown-took : (ring : Ring) (ks : List Call)
-    → events (outs (plainTrace ring ks))
-    ≡ toldLog (plainReading ring (bytesTaken ks (outs (plainTrace ring ks))) (answersHeard ks (outs (plainTrace ring ks))) (endHeard ks (outs (plainTrace ring ks))))
+pub shown-took : (terms : Terms) (ks : List Call)
+    → events (outs (plainTrace terms ks))
+    ≡ toldLog (plainReading terms (bytesTaken ks (outs (plainTrace terms ks))) (answersHeard ks (outs (plainTrace terms ks))) (endHeard ks (outs (plainTrace terms ks))))
 unfolding plainTrace plainReading
-shown-took ring ks =
-    let os = runCalls (rules ring) head ks in
-    let e = outs-run ring ks in
-    rw (e, answers-told ks os, bytes-told ks os, end-told ks os, placed-told 0 os) (ap toldLog (run-took (rules ring) head ks))
+shown-took terms ks =
+    let os = runCalls (rules terms) head ks in
+    let e = outs-run terms ks in
+    rw (e, answers-told ks os, bytes-told ks os, end-told ks os, placed-told 0 os) (ap toldLog (run-took (rules terms) head ks))
 
 -- THE EVENTS SHOWN are those of the machine's run, told.
-pub shown-events : (ring : Ring) (ks : List Call) → events (outs (plainTrace ring ks)) ≡ toldLog (events (runCalls (rules ring) head ks))
+pub shown-events : (terms : Terms) (ks : List Call) → events (outs (plainTrace terms ks)) ≡ toldLog (events (runCalls (rules terms) head ks))
 unfolding plainTrace
-shown-events ring ks = rw (outs-run ring ks) (placed-told 0 (runCalls (rules ring) head ks))
+shown-events terms ks = rw (outs-run terms ks) (placed-told 0 (runCalls (rules terms) head ks))

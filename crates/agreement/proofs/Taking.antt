@@ -6,7 +6,7 @@ use mathlib.Core.List.{List, [], _∷_}
 use Prim.Native.Nat.{ℕ, _+_}
 use native.Mathlib.Omega.{arith}
 use lib.ListN.{length}
-use Rattle.ring.specs.Keys.{ringOf}
+use Rattle.ring.specs.Keys.{termsOf}
 use Rattle.ring.specs.declared.KeyRing.{KeyRing}
 use Rattle.sections.specs.Calls.{feed}
 use Rattle.state.specs.Configuration.{Configuration, Next, on, stop}
@@ -37,7 +37,7 @@ some-taken push d x xs = by (push d x)
     by (stop w signature d′) = record { least = omega arith; most = omega arith }
 
 -- A FEED of a piece that is not empty, and that is due, takes a byte or more, in any state.
-pub feed-takes : (keys : KeyRing) (d : Configuration) (x : ℕ) (xs : List ℕ) → loanFits (d .head) (d .block) (d .question) keys (feed (x ∷ xs)) ≡ true
-    → isReading (d .reader .phase) ≡ true → Between 1 (length (x ∷ xs)) (feedOf keys d (x ∷ xs) .taken)
+pub feed-takes : (keys : KeyRing) (uri : List ℕ) (d : Configuration) (x : ℕ) (xs : List ℕ) → loanFits (d .head) (d .block) (d .question) keys (feed (x ∷ xs)) ≡ true
+    → isReading (d .reader .phase) ≡ true → Between 1 (length (x ∷ xs)) (feedOf keys uri d (x ∷ xs) .taken)
 unfolding feedOf takenFrom
-feed-takes keys d x xs e r = rw (loan-same (d .head) (d .block) (d .question) keys (feed (x ∷ xs)) ∙ e, r) (some-taken (pushByte (ringOf keys)) (recalled d) x xs)
+feed-takes keys uri d x xs e r = rw (loan-same (d .head) (d .block) (d .question) keys (feed (x ∷ xs)) ∙ e, r) (some-taken (pushByte (termsOf keys uri)) (recalled d) x xs)

@@ -9,8 +9,8 @@ use Rattle.sections.specs.Resuming.{request}
 use Rattle.stream.specs.Events.{Question, Release, headAccepted, block, LastWord}
 use Rattle.stream.specs.Fields.{valueOf, countOf}
 use Rattle.stream.specs.Lines.{Field}
-use Rattle.stream.specs.Ring.{Ring}
 use Rattle.stream.specs.Stream.{head, rules}
+use Rattle.stream.specs.Terms.{Terms}
 use Rattle.agreement.specs.Observation.{Values, Told, Observation, Trace}
 use Rattle.agreement.specs.Observation as S
 
@@ -78,5 +78,5 @@ traceFrom h (k ∷ ks) [] = []
 traceFrom h (k ∷ ks) (o ∷ os) = observes (handedAfter h (request k) (o .0)) o ∷ traceFrom (handedAfter h (request k) (o .0)) ks os
 
 -- what the plain reading shows of a list of calls
-unfoldable pub plainTrace : Ring → List Call → Trace
-plainTrace ring ks = traceFrom nothing ks (readCalls (rules ring) head ks)
+unfoldable pub plainTrace : Terms → List Call → Trace
+plainTrace terms ks = traceFrom nothing ks (readCalls (rules terms) head ks)

@@ -26,28 +26,28 @@ use Rattle.agreement.specs.Observation.{Values, Told, headAccepted, bloc
 
 -- ---- calls
 
--- A call that is refused with 2 may be lent anything; any other is lent the same buffers as last left, and a feed the same ring.
+-- A call that is refused with 2 may be lent anything; any other is lent the same buffers as last left, and a feed the same ring and URI.
 pub data Invocation : Type 0 where
   same : Request → Invocation
-  other : (h b q : List ℕ) (ring : KeyRing) (r : Request) → loanFits h b q ring r ≡ false → Invocation
+  other : (h b q : List ℕ) (ring : KeyRing) (uri : List ℕ) (r : Request) → loanFits h b q ring r ≡ false → Invocation
 
 -- ---- the run
 
 -- one call, by the functions that the contracts name
-abbrev pub called : KeyRing → Configuration → Request → R.Response
-called ring d (feed piece) = feedOf ring d piece
-called ring d (answer good) = answerOf d good
-called ring d end = endOf d
+abbrev pub called : KeyRing → List ℕ → Configuration → Request → R.Response
+called ring uri d (feed piece) = feedOf ring uri d piece
+called ring uri d (answer good) = answerOf d good
+called ring uri d end = endOf d
 
 -- the same reader's call with other buffers, which leaves these as they are
-abbrev pub aside : KeyRing → Configuration → Configuration → Request → R.Response
-aside ring d lent r =
-    let c = called ring lent r in
+abbrev pub aside : KeyRing → List ℕ → Configuration → Configuration → Request → R.Response
+aside ring uri d lent r =
+    let c = called ring uri lent r in
     R.response (c .word) (c .taken) (c .signature) (configuration (c .after .reader) (d .head) (d .block) (d .question))
 
-unfoldable pub runCall : KeyRing → Configuration → Invocation → R.Response
-runCall ring d (same r) = called ring d r
-runCall ring d (other h b q ring′ r misfit) = aside ring′ d (configuration (d .reader) h b q) r
+unfoldable pub runCall : KeyRing → List ℕ → Configuration → Invocation → R.Response
+runCall ring uri d (same r) = called ring uri d r
+runCall ring uri d (other h b q ring′ uri′ r misfit) = aside ring′ uri′ d (configuration (d .reader) h b q) r
 
 -- ---- what a caller sees
 
@@ -92,20 +92,21 @@ observed c =
     }
 
 -- one call after the other, each with the reader and the buffers that the one before left
-unfoldable pub runFrom : KeyRing → Configuration → List Invocation → Trace
-runFrom ring d [] = []
-runFrom ring d (k ∷ ks) = observed (runCall ring d k) ∷ runFrom ring (runCall ring d k .after) ks
+unfoldable pub runFrom : KeyRing → List ℕ → Configuration → List Invocation → Trace
+runFrom ring uri d [] = []
+runFrom ring uri d (k ∷ ks) = observed (runCall ring uri d k) ∷ runFrom ring uri (runCall ring uri d k .after) ks
 
 -- a list of calls from a fresh reader, lent buffers of any first content
-unfoldable pub run : KeyRing → List ℕ → List ℕ → List ℕ → List Invocation → Trace
-run ring h b q ks = runFrom ring (configuration freshReader h b q) ks
+unfoldable pub run : KeyRing → List ℕ → List ℕ → List ℕ → List ℕ → List Invocation → Trace
+run ring uri h b q ks = runFrom ring uri (configuration freshReader h b q) ks
 
 -- ---- the same calls, for the plain reading
 
--- A call asks what it asks; its loan will do or not. The buffers keep their lengths, so the first ones tell.
+-- A call asks what it asks; its loan will do or not. The buffers keep their lengths, so the first ones tell; the URI, of whatever length, will
+-- always do.
 abbrev pub plainCall : KeyRing → List ℕ → List ℕ → List ℕ → Invocation → S.Call
 plainCall ring h b q (same r) = S.call (loanFits h b q ring r) r
-plainCall ring h b q (other h′ b′ q′ ring′ r misfit) = S.call false r
+plainCall ring h b q (other h′ b′ q′ ring′ uri′ r misfit) = S.call false r
 
 unfoldable pub plainCalls : KeyRing → List ℕ → List ℕ → List ℕ → List Invocation → List S.Call
 plainCalls ring h b q [] = []

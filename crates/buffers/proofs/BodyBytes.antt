@@ -17,9 +17,9 @@ use Rattle.stream.specs.Events.{closed, refused}
 use Rattle.stream.specs.Limits.{headLimit}
 use Rattle.stream.specs.Lines.{Field, crlf}
 use Rattle.stream.specs.Places.{dataEndPlace, trailerPlace}
-use Rattle.stream.specs.Ring.{Ring}
 use Rattle.stream.specs.Stream.{Show, Past, isWhole, judge, judgeDataEnd, judgeTrailer, rules}
 use Rattle.stream.specs.Stream as C
+use Rattle.stream.specs.Terms.{Terms}
 use Rattle.stream.specs.Trailer.{isWholeTrailer, isTrailer}
 use Rattle.stream.proofs.Sound.{SoundBlock}
 use Rattle.state.specs.Configuration.{Configuration, configuration, inPhase, on, moved, refuse, noSignature}
@@ -34,19 +34,19 @@ use Rattle.buffers.specs.Left.{buffersIn}
 use Rattle.buffers.proofs.Fronts.{within, block-more}
 use Rattle.buffers.proofs.Leaves.{Left, afterNext, begins, refuses}
 
-module _ (ring : Ring) (fields : List Field) (d : Configuration) (x : ℕ) (lent : Lent d fields) (b : Buffers) where
+module _ (terms : Terms) (fields : List Field) (d : Configuration) (x : ℕ) (lent : Lent d fields) (b : Buffers) where
   -- ---- data
 
   module _ (s : Show) (p : Past) (have size : ℕ) (g : List ℕ) where
     data-by : (t : Bool) (d′ : Configuration) → buffersIn d′ ≡ intoBlock (g ++ x ∷ []) b
-        → Left ring d′ (markOf (gatheredOn (rules ring) effects t (C.blockData s p size) (g ++ x ∷ []) b))
+        → Left terms d′ (markOf (gatheredOn (rules terms) effects t (C.blockData s p size) (g ++ x ∷ []) b))
     unfolding rules judge withSection
     data-by true d′ e = begins d′ _ e _
     data-by false d′ e = record { same = e; waits = tt }
 
     pub data-leaves : SoundBlock s p size → Gathered (d .block) have g → isWhole (C.blockData s p size) g ≡ false
         → buffersIn d ≡ withSection (C.blockData s p size) g b
-        → Left ring (afterNext (pushData d have size x)) (markOf (move (rules ring) effects (C.blockData s p size) g b x))
+        → Left terms (afterNext (pushData d have size x)) (markOf (move (rules terms) effects (C.blockData s p size) g b x))
     unfolding pushData move withSection rules isWhole
     data-leaves sound a e f =
         let m : have < size = rw (a .count) at (short (C.blockData s p size) g e) in
@@ -58,15 +58,15 @@ module _ (ring : Ring) (fields : List Field) (d : Configuration) (x : ℕ) (lent
 
   module _ (s : Show) (p : Past) (size : ℕ) (block : List ℕ) (u : Under d s p size block) where
     end-by : (t : Bool) (l : List ℕ) → buffersIn d ≡ b
-        → Left ring (afterNext (pick t (on (moved d (P.NextLine 0 size))) (refuse (placed 6 (dataEndPlace l)) size d)))
-        (markOf (rulingOn (rules ring) effects (C.dataEnd s p block) l (elim t [ true ↦ go (C.nextLine s p block) | false ↦ stop (refused 6 (dataEndPlace l)) ]) b))
+        → Left terms (afterNext (pick t (on (moved d (P.NextLine 0 size))) (refuse (placed 6 (dataEndPlace l)) size d)))
+        (markOf (rulingOn (rules terms) effects (C.dataEnd s p block) l (elim t [ true ↦ go (C.nextLine s p block) | false ↦ stop (refused 6 (dataEndPlace l)) ]) b))
     unfolding pending
     end-by true l f = begins _ b f _
     end-by false l f = refuses d b f _ size (C.dataEnd s p block) l (sym (u .bytes .count)) (within (u .bytes))
 
     pub end-leaves : (have : ℕ) (g : List ℕ) → Gathered (d .reader .line) have g → isWhole (C.dataEnd s p block) g ≡ false
         → buffersIn d ≡ withSection (C.dataEnd s p block) g b
-        → Left ring (afterNext (pushDataEnd d have size x)) (markOf (move (rules ring) effects (C.dataEnd s p block) g b x))
+        → Left terms (afterNext (pushDataEnd d have size x)) (markOf (move (rules terms) effects (C.dataEnd s p block) g b x))
     unfolding pushDataEnd move rules isWhole judge judgeDataEnd withSection
     end-leaves zero g a e f =
         let c = gather (d .reader .line) g 0 x a (rw (lent .line) (omega arith)) in
@@ -87,22 +87,22 @@ module _ (ring : Ring) (fields : List Field) (d : Configuration) (x : ℕ) (lent
     after = configuration (inPhase (d .reader) (P.Trailer (have + 1) total)) (d .head) (set (d .block) have x) (d .question)
 
     closed-by : (t : Bool) → Gathered (after .block) (have + 1) text → buffersIn after ≡ intoBlock text b
-        → Left ring (afterNext (pick t (D.stop (W.Closed total) noSignature (moved after (P.Closed total))) (refuse (placed 6 (trailerPlace text)) (have + 1) after)))
-        (markOf (rulingOn (rules ring) effects (C.trailer total) text (elim t [ true ↦ stop (closed total) | false ↦ stop (refused 6 (trailerPlace text)) ]) (intoBlock text b)))
+        → Left terms (afterNext (pick t (D.stop (W.Closed total) noSignature (moved after (P.Closed total))) (refuse (placed 6 (trailerPlace text)) (have + 1) after)))
+        (markOf (rulingOn (rules terms) effects (C.trailer total) text (elim t [ true ↦ stop (closed total) | false ↦ stop (refused 6 (trailerPlace text)) ]) (intoBlock text b)))
     unfolding pending withLastWord
     closed-by true a f = record { same = f; waits = tt }
     closed-by false a f = refuses after (intoBlock text b) f _ (have + 1) (C.trailer total) text (sym (a .count)) (within a)
 
     trailer-by : (t : Bool) → Gathered (after .block) (have + 1) text → buffersIn after ≡ intoBlock text b
-        → Left ring
+        → Left terms
         (afterNext (pick t (pick (isTrailer text) (D.stop (W.Closed total) noSignature (moved after (P.Closed total))) (refuse (placed 6 (trailerPlace text)) (have + 1) after)) (on after)))
-        (markOf (gatheredOn (rules ring) effects t (C.trailer total) text b))
+        (markOf (gatheredOn (rules terms) effects t (C.trailer total) text b))
     unfolding rules judge judgeTrailer withSection
     trailer-by true a f = closed-by (isTrailer text) a f
     trailer-by false a f = record { same = f; waits = tt }
 
     pub trailer-leaves : Gathered (d .block) have g → isWhole (C.trailer total) g ≡ false → buffersIn d ≡ withSection (C.trailer total) g b
-        → Left ring (afterNext (pushTrailer d have total x)) (markOf (move (rules ring) effects (C.trailer total) g b x))
+        → Left terms (afterNext (pushTrailer d have total x)) (markOf (move (rules terms) effects (C.trailer total) g b x))
     unfolding pushTrailer trailerGathered move rules isWhole withSection
     trailer-leaves a e f =
         let m : have < headLimit = rw (a .count) at (short (C.trailer total) g e) in

@@ -15,8 +15,8 @@ use Rattle.stream.specs.Events.{LastWord, closed, refused}
 use Rattle.stream.specs.Head.{headOf, headFault, isWholeHead}
 use Rattle.stream.specs.Lines.{crlf}
 use Rattle.stream.specs.Places.{headPlace, linePlace, dataEndPlace, trailerPlace}
-use Rattle.stream.specs.Ring.{Ring}
 use Rattle.stream.specs.Stream.{Show, Past, nothing, after, bodyWith, Context, head, firstLine, blockData, dataEnd, nextLine, trailer, isWhole, Says, announced, unlessBroken, acceptHead, acceptBlock, judgeHead, judgeFirstLine, judgeDataEnd, judgeNextLine, judgeTrailer, judge, rules}
+use Rattle.stream.specs.Terms.{Terms}
 use Rattle.stream.specs.Trailer.{isTrailer}
 
 abbrev isPast : Context → Bool
@@ -43,21 +43,21 @@ unless-onward : (fault place : ℕ) (v : Says) → Onward v → Onward (unlessBr
 unless-onward zero place v h = h
 unless-onward (suc n) place v h = tt
 
-judge-onward : (ring : Ring) (c : Context) (l : List ℕ) → Onward (judge ring c l)
+judge-onward : (terms : Terms) (c : Context) (l : List ℕ) → Onward (judge terms c l)
 unfolding judge judgeHead judgeFirstLine judgeDataEnd judgeNextLine judgeTrailer acceptHead acceptBlock
-judge-onward ring head l = unless-onward (headFault ring l) (headPlace l) (acceptHead ring (headOf l)) refl
-judge-onward ring (firstLine s) l =
+judge-onward terms head l = unless-onward (headFault terms l) (headPlace l) (acceptHead (terms .ring) (headOf l)) refl
+judge-onward terms (firstLine s) l =
     unless-onward (lineFault (s .size) false true 0 l) (linePlace l) (go (announced s nothing 0 (chunkSize l))) (announced-past s nothing 0 (chunkSize l))
-judge-onward ring (blockData s p n) l = refl
-judge-onward ring (dataEnd s p d) l = by (same l crlf)
+judge-onward terms (blockData s p n) l = refl
+judge-onward terms (dataEnd s p d) l = by (same l crlf)
   where
     by : (t : Bool) → Onward (elim t [ true ↦ go (nextLine s p d) | false ↦ stop (refused 6 (dataEndPlace l)) ])
     by true = refl
     by false = tt
-judge-onward ring (nextLine s p d) l =
+judge-onward terms (nextLine s p d) l =
     unless-onward (lineFault (s .size) true (eqb (length d) (s .size)) (bodyWith s p d) l) (linePlace l) (acceptBlock s p d l)
     (announced-past s (after p d) (bodyWith s p d) (chunkSize l))
-judge-onward ring (trailer total) l = by (isTrailer l)
+judge-onward terms (trailer total) l = by (isTrailer l)
   where
     by : (t : Bool) → Onward (elim t [ true ↦ stop (closed total) | false ↦ stop (refused 6 (trailerPlace l)) ])
     by true = tt
@@ -79,8 +79,8 @@ gathered-head (dataEnd s p d) l b h = refl
 gathered-head (nextLine s p d) l b h = refl
 gathered-head (trailer total) l b h = refl
 
-module _ (ring : Ring) where
-  last-head : (c : Context) (l : List ℕ) (told : Bool) (b : Buffers) → outOfBytes (rules ring) effects c l told b .head ≡ b .head
+module _ (terms : Terms) where
+  last-head : (c : Context) (l : List ℕ) (told : Bool) (b : Buffers) → outOfBytes (rules terms) effects c l told b .head ≡ b .head
   last-head c l true b = finished-head c l _ b
   last-head c l false b = refl
 
@@ -88,7 +88,7 @@ module _ (ring : Ring) where
   Keeps next = (c : Context) (ans : List Bool) (b : Buffers) → isPast c ≡ true → next c ans b .head ≡ b .head
 
   verdict-head : (c : Context) (l : List ℕ) (v : Says) (ans : List Bool) (b : Buffers) (next : Context → List Bool → Buffers → Buffers) → Onward v → Keeps next
-      → afterVerdict (rules ring) effects c l v ans b next .head ≡ b .head
+      → afterVerdict (rules terms) effects c l v ans b next .head ≡ b .head
   unfolding withMessage
   verdict-head c l (go c′) ans b next h k = k c′ ans b h
   verdict-head c l (tell e c′) ans b next h k = k c′ ans b h
@@ -101,30 +101,30 @@ module _ (ring : Ring) where
   verdict-head c l (stop w) ans b next h k = finished-head c l w b
 
   sections-head : (k : ℕ) (c : Context) (bs : List ℕ) (ans : List Bool) (told : Bool) (b : Buffers) → isPast c ≡ true
-      → afterSections (rules ring) effects k c bs ans told b .head ≡ b .head
+      → afterSections (rules terms) effects k c bs ans told b .head ≡ b .head
   unfolding afterSections rules
   sections-head zero c bs ans told b h = last-head c bs told _ ∙ gathered-head c bs b h
   sections-head (suc k) c bs ans told b h = by (cut (isWhole c) bs) (λ c′ r ans′ b′ h′. sections-head k c′ r ans′ told b′ h′)
     where
-      by : (m : Cut) → ((c′ : Context) (r : List ℕ) (ans′ : List Bool) (b′ : Buffers) → isPast c′ ≡ true → afterSections (rules ring) effects k c′ r ans′ told b′ .head ≡ b′ .head)
-          → afterSection (rules ring) effects c bs ans told b m (λ c′ r ans′ b′. afterSections (rules ring) effects k c′ r ans′ told b′) .head ≡ b .head
+      by : (m : Cut) → ((c′ : Context) (r : List ℕ) (ans′ : List Bool) (b′ : Buffers) → isPast c′ ≡ true → afterSections (rules terms) effects k c′ r ans′ told b′ .head ≡ b′ .head)
+          → afterSection (rules terms) effects c bs ans told b m (λ c′ r ans′ b′. afterSections (rules terms) effects k c′ r ans′ told b′) .head ≡ b .head
       by uncut ih = last-head c bs told _ ∙ gathered-head c bs b h
-      by (cutAt f r) ih = verdict-head c f (judge ring c f) ans (withSection c f b) _ (judge-onward ring c f) (λ c′ ans′ b′ h′. ih c′ r ans′ b′ h′) ∙ gathered-head c f b h
+      by (cutAt f r) ih = verdict-head c f (judge terms c f) ans (withSection c f b) _ (judge-onward terms c f) (λ c′ ans′ b′ h′. ih c′ r ans′ b′ h′) ∙ gathered-head c f b h
 
   -- THE HEAD BYTES lie at the front of the head buffer, and nothing else of it changes
-  pub head-kept : (bs : List ℕ) (ans : List Bool) (told : Bool) (b : Buffers) → buffersAfter ring bs ans told b .head ≡ front (headBytes bs) (b .head)
+  pub head-kept : (bs : List ℕ) (ans : List Bool) (told : Bool) (b : Buffers) → buffersAfter terms bs ans told b .head ≡ front (headBytes bs) (b .head)
   unfolding buffersAfter leaving afterSections rules withSection isWhole cut
   head-kept [] ans told b = last-head head [] told _
   head-kept (x ∷ bs) ans told b = by (cut isWholeHead (x ∷ bs))
     where
       by : (m : Cut)
-          → afterSection (rules ring) effects head (x ∷ bs) ans told b m (λ c r ans′ b′. afterSections (rules ring) effects (length bs) c r ans′ told b′) .head
+          → afterSection (rules terms) effects head (x ∷ bs) ans told b m (λ c r ans′ b′. afterSections (rules terms) effects (length bs) c r ans′ told b′) .head
           ≡ front (part (x ∷ bs) m) (b .head)
       by uncut = last-head head (x ∷ bs) told _
-      by (cutAt f r) = verdict-head head f (judge ring head f) ans (withSection head f b) _ (judge-onward ring head f) (λ c ans′ b′ h. sections-head (length bs) c r ans′ told b′ h)
+      by (cutAt f r) = verdict-head head f (judge terms head f) ans (withSection head f b) _ (judge-onward terms head f) (λ c ans′ b′ h. sections-head (length bs) c r ans′ told b′ h)
 
   -- NO BYTE, no change
-  pub none-left : (ans : List Bool) (told : Bool) (b : Buffers) → buffersAfter ring [] ans told b ≡ b
+  pub none-left : (ans : List Bool) (told : Bool) (b : Buffers) → buffersAfter terms [] ans told b ≡ b
   unfolding buffersAfter leaving afterSections rules withSection withLastWord pending
   none-left ans true b = refl
   none-left ans false b = refl

@@ -8,8 +8,8 @@ use Rattle.sections.proofs.Marks.{Mark, midway, waiting, done, leftAt}
 use Rattle.refusals.specs.declared.Refusal.{Refusal}
 use Rattle.stream.specs.Buffers.{Buffers, front, pending, withLastWord, effects}
 use Rattle.stream.specs.Events.{Release, LastWord, refused}
-use Rattle.stream.specs.Ring.{Ring}
 use Rattle.stream.specs.Stream.{Context, rules}
+use Rattle.stream.specs.Terms.{Terms}
 use Rattle.state.specs.Configuration.{Configuration, Next, on, stop, refuse}
 use Rattle.state.specs.Configuration as D
 use Rattle.state.specs.declared.phase.Phase.{Phase}
@@ -25,22 +25,22 @@ Waits p (midway c g b) = Unit {0}
 Waits p (waiting c l y b) = D.pending p ≡ pending c l
 Waits p (done b) = Unit {0}
 
-pub record Left (ring : Ring) (d : Configuration) (m : Reached) : Type 0 where
-  pub same : buffersIn d ≡ leftAt (rules ring) effects m
+pub record Left (terms : Terms) (d : Configuration) (m : Reached) : Type 0 where
+  pub same : buffersIn d ≡ leftAt (rules terms) effects m
   pub waits : Waits (d .reader .phase) m
 
 abbrev pub afterNext : Next → Configuration
 afterNext (on d) = d
 afterNext (stop w signature d) = d
 
-module _ {ring : Ring} (d : Configuration) (b : Buffers) (same : buffersIn d ≡ b) where
+module _ {terms : Terms} (d : Configuration) (b : Buffers) (same : buffersIn d ≡ b) where
   -- a section is to come
-  pub begins : (c : Context) → Left ring d (midway c [] b)
+  pub begins : (c : Context) → Left terms d (midway c [] b)
   begins c = record { same = same ∙ sym (none-gathered c b); waits = tt }
 
   -- a final refusal, with as many bytes cleared as were pending
   pub refuses : (why : Refusal) (count : ℕ) (c : Context) (l : List ℕ) → count ≡ pending c l → count ≤ length (d .block)
-      → Left ring (afterNext (refuse why count d)) (done (withLastWord c l (refused (why .number) (why .at)) b))
+      → Left terms (afterNext (refuse why count d)) (done (withLastWord c l (refused (why .number) (why .at)) b))
   unfolding refuse withLastWord
   refuses why count c l e h =
       let m : D.cleared count (d .block) ≡ front (replicate (pending c l) 0) (b .block) =

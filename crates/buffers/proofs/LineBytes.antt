@@ -17,9 +17,9 @@ use Rattle.stream.specs.Buffers.{Buffers, front, withSection, withMessage, pend
 use Rattle.stream.specs.Limits.{lineLimit}
 use Rattle.stream.specs.Lines.{Field}
 use Rattle.stream.specs.Places.{linePlace}
-use Rattle.stream.specs.Ring.{Ring}
 use Rattle.stream.specs.Stream.{Show, Past, nothing, isWhole, announced, unlessBroken, judge, judgeFirstLine, judgeNextLine, blockOffset, bodyWith, blockQuestion, acceptBlock, rules}
 use Rattle.stream.specs.Stream as C
+use Rattle.stream.specs.Terms.{Terms}
 use Rattle.state.specs.Configuration.{Configuration, on, lined}
 use Rattle.state.specs.declared.phase.Phase.the-variants as P
 use Rattle.line_steps.specs.FirstLine.{firstAnswered, firstGathered, pushFirstLine}
@@ -32,7 +32,7 @@ use Rattle.buffers.specs.Left.{buffers, buffersIn}
 use Rattle.buffers.proofs.Fronts.{within}
 use Rattle.buffers.proofs.Leaves.{Left, afterNext, begins, refuses}
 
-module _ (ring : Ring) (fields : List Field) (d : Configuration) (x : ℕ) (lent : Lent d fields) (b : Buffers) (f : buffersIn d ≡ b) (have : ℕ) (g : List ℕ) where
+module _ (terms : Terms) (fields : List Field) (d : Configuration) (x : ℕ) (lent : Lent d fields) (b : Buffers) (f : buffersIn d ≡ b) (have : ℕ) (g : List ℕ) where
   abbrev l : List ℕ
   l = g ++ x ∷ []
 
@@ -46,21 +46,21 @@ module _ (ring : Ring) (fields : List Field) (d : Configuration) (x : ℕ) (lent
     first = lined d (P.FirstLine (have + 1)) line
 
     first-answered : (fault : ℕ)
-        → Left ring (afterNext (firstAnswered first (unlessFault fault l (goodLine (chunkSize l) (signatureOf l)) .answer)))
-        (markOf (rulingOn (rules ring) effects (C.firstLine s) l (unlessBroken fault (linePlace l) (go (announced s nothing 0 (chunkSize l)))) b))
+        → Left terms (afterNext (firstAnswered first (unlessFault fault l (goodLine (chunkSize l) (signatureOf l)) .answer)))
+        (markOf (rulingOn (rules terms) effects (C.firstLine s) l (unlessBroken fault (linePlace l) (go (announced s nothing 0 (chunkSize l)))) b))
     unfolding firstAnswered pending
     first-answered zero = begins _ b f _
     first-answered (suc n) = refuses first b f _ 0 (C.firstLine s) l refl (omega arith)
 
     first-by : (N : ℕ) → N ≡ s .size → (t : Bool)
-        → Left ring (afterNext (pick t (firstAnswered first (lineJudged N false true 0 l .answer)) (on first)))
-        (markOf (gatheredOn (rules ring) effects t (C.firstLine s) l b))
+        → Left terms (afterNext (pick t (firstAnswered first (lineJudged N false true 0 l .answer)) (on first)))
+        (markOf (gatheredOn (rules terms) effects t (C.firstLine s) l b))
     unfolding rules judge judgeFirstLine lineJudged withSection
     first-by N n true = rw n (first-answered (lineFault (s .size) false true 0 l))
     first-by N n false = record { same = f; waits = tt }
 
     pub first-leaves : Gathered (d .reader .line) have g → isWhole (C.firstLine s) g ≡ false
-        → Left ring (afterNext (pushFirstLine d have x)) (markOf (move (rules ring) effects (C.firstLine s) g b x))
+        → Left terms (afterNext (pushFirstLine d have x)) (markOf (move (rules terms) effects (C.firstLine s) g b x))
     unfolding pushFirstLine firstGathered move rules isWhole
     first-leaves a e =
         let m : have < lineLimit = rw (a .count) at (short (C.firstLine s) g e) in
@@ -79,36 +79,36 @@ module _ (ring : Ring) (fields : List Field) (d : Configuration) (x : ℕ) (lent
     -- the message lies at the front of the question buffer, with nothing after it
     written-is : messageNow next size .bytes ≡ front message (b .question)
     written-is =
-        ap (λ (w : Written). w .bytes) (message-is ring fields d x lent none s p size block u have g)
+        ap (λ (w : Written). w .bytes) (message-is terms fields d x lent none s p size block u have g)
         ∙ ap (λ (t : Buffers). front message (t .question)) f
 
-    asked-left : Left ring (afterNext (Line.asked next size (chunkSize l) (signatureOf l)))
-        (markOf (rulingOn (rules ring) effects (C.nextLine s p block) l (acceptBlock s p block l) b))
+    asked-left : Left terms (afterNext (Line.asked next size (chunkSize l) (signatureOf l)))
+        (markOf (rulingOn (rules terms) effects (C.nextLine s p block) l (acceptBlock s p block l) b))
     unfolding Line.asked acceptBlock blockQuestion withMessage pending
     asked-left =
         let w = written-is in
         record { same = λ i. buffers (f i .head) (f i .block) (w i); waits = sym (u .bytes .count) }
 
     next-answered : (fault : ℕ)
-        → Left ring
+        → Left terms
         (afterNext (nextAnswered next size (unlessFault fault l (goodLine (chunkSize l) (signatureOf l)) .answer) (unlessFault fault l (goodLine (chunkSize l) (signatureOf l)) .signature)))
-        (markOf (rulingOn (rules ring) effects (C.nextLine s p block) l (unlessBroken fault (linePlace l) (acceptBlock s p block l)) b))
+        (markOf (rulingOn (rules terms) effects (C.nextLine s p block) l (unlessBroken fault (linePlace l) (acceptBlock s p block l)) b))
     unfolding nextAnswered pending
     next-answered zero = asked-left
     next-answered (suc n) = refuses next b f _ size (C.nextLine s p block) l (sym (u .bytes .count)) (within (u .bytes))
 
     next-by : (t : Bool)
-        → Left ring
+        → Left terms
         (afterNext (pick t (nextAnswered next size (nextJudged (next .reader) size l .answer) (nextJudged (next .reader) size l .signature)) (on next)))
-        (markOf (gatheredOn (rules ring) effects t (C.nextLine s p block) l b))
+        (markOf (gatheredOn (rules terms) effects t (C.nextLine s p block) l b))
     unfolding rules judge judgeNextLine lineJudged withSection
     next-by true =
-        rw (judged-is ring fields d x lent none s p size block u have g)
+        rw (judged-is terms fields d x lent none s p size block u have g)
         (next-answered (lineFault (s .size) true (eqb (length block) (s .size)) (bodyWith s p block) l))
     next-by false = record { same = f; waits = tt }
 
     pub next-leaves : Gathered (d .reader .line) have g → isWhole (C.nextLine s p block) g ≡ false
-        → Left ring (afterNext (pushNextLine d have size x)) (markOf (move (rules ring) effects (C.nextLine s p block) g b x))
+        → Left terms (afterNext (pushNextLine d have size x)) (markOf (move (rules terms) effects (C.nextLine s p block) g b x))
     unfolding pushNextLine nextGathered move rules isWhole
     next-leaves a e =
         let m : have < lineLimit = rw (a .count) at (short (C.nextLine s p block) g e) in

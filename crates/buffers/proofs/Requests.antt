@@ -12,8 +12,8 @@ use Rattle.sections.proofs.Marks.{midway, waiting, done, stateOf}
 use Rattle.sections.proofs.Marking.{respondTo}
 use Rattle.refusals.specs.Refusals.{plain}
 use Rattle.stream.specs.Buffers.{withSection, pending, effects}
-use Rattle.stream.specs.Ring.{Ring}
 use Rattle.stream.specs.Stream.{Context, rules}
+use Rattle.stream.specs.Terms.{Terms}
 use Rattle.state.specs.Configuration.{Configuration, refuse}
 use Rattle.state.specs.Configuration as D
 use Rattle.state.specs.declared.phase.Phase.{Phase}
@@ -29,15 +29,15 @@ use Rattle.buffers.proofs.Fronts.{within}
 use Rattle.buffers.proofs.Leaves.{Reached, Waits, Left, begins, refuses}
 use Rattle.buffers.proofs.Pieces.{piece-leaves}
 
-module _ (ring : Ring) (h : Handed) (d : Configuration) where
+module _ (terms : Terms) (h : Handed) (d : Configuration) where
   -- ---- a feed
 
-  pub feed-leaves : (m : Reached) (piece : List ℕ) → Holds ring d h (stateOf m) → Left ring d m
-      → Left ring (pick (isReading (d .reader .phase)) (takenFrom ring (recalled d) piece) (unchanged 1 d) .after) (respondTo (rules ring) effects m (feed piece))
+  pub feed-leaves : (m : Reached) (piece : List ℕ) → Holds terms d h (stateOf m) → Left terms d m
+      → Left terms (pick (isReading (d .reader .phase)) (takenFrom terms (recalled d) piece) (unchanged 1 d) .after) (respondTo (rules terms) effects m (feed piece))
   unfolding takenFrom respondTo
   feed-leaves (midway c g b) piece k l =
       rw (reading-phase (k .stands))
-      (piece-leaves ring (h .signed) piece 0 (recalled d) c g b
+      (piece-leaves terms (h .signed) piece 0 (recalled d) c g b
       (record { stands = stands-back (k .stands); lent = still (k .lent) _ refl refl refl refl refl; taken = refl }) (l .same))
   feed-leaves (waiting c t y b) piece k l = rw (asked-phase (k .stands)) l
   feed-leaves (done b) piece k l = rw (finished-phase (k .stands)) l
@@ -45,7 +45,7 @@ module _ (ring : Ring) (h : Handed) (d : Configuration) where
   -- ---- the end
 
   -- as many bytes are pending as have come
-  counted : (p : Phase) (c : Context) (g : List ℕ) → At ring d p (running c g) → D.pending p ≡ pending c g
+  counted : (p : Phase) (c : Context) (g : List ℕ) → At terms d p (running c g) → D.pending p ≡ pending c g
   unfolding pending
   counted p c g (F.head early a e) = refl
   counted p c g (F.firstLine k sound none a e) = refl
@@ -55,7 +55,7 @@ module _ (ring : Ring) (h : Handed) (d : Configuration) where
   counted p c g (F.trailer most a e) = sym (a .count)
 
   -- and lie within the buffer
-  roomy : (p : Phase) (c : Context) (g : List ℕ) → At ring d p (running c g) → D.pending p ≤ length (d .block)
+  roomy : (p : Phase) (c : Context) (g : List ℕ) → At terms d p (running c g) → D.pending p ≤ length (d .block)
   roomy p c g (F.head early a e) = omega arith
   roomy p c g (F.firstLine k sound none a e) = omega arith
   roomy p c g (F.blockData k t sound a e) = within a
@@ -63,8 +63,8 @@ module _ (ring : Ring) (h : Handed) (d : Configuration) where
   roomy p c g (F.nextLine u a e) = within (u .bytes)
   roomy p c g (F.trailer most a e) = within a
 
-  pub end-leaves : (m : Reached) → Holds ring d h (stateOf m) → Left ring d m
-      → Left ring (pick (isReading (d .reader .phase)) (given 0 (refuse (plain 11) (D.pending (d .reader .phase)) (recalled d))) (unchanged 1 d) .after) (respondTo (rules ring) effects m end)
+  pub end-leaves : (m : Reached) → Holds terms d h (stateOf m) → Left terms d m
+      → Left terms (pick (isReading (d .reader .phase)) (given 0 (refuse (plain 11) (D.pending (d .reader .phase)) (recalled d))) (unchanged 1 d) .after) (respondTo (rules terms) effects m end)
   unfolding respondTo rules refuse
   end-leaves (midway c g b) k l =
       rw (reading-phase (k .stands))
@@ -74,8 +74,8 @@ module _ (ring : Ring) (h : Handed) (d : Configuration) where
 
   -- ---- an answer
 
-  pub answer-leaves : (p : Phase) (m : Reached) (good : Bool) → At ring d p (stateOf m) → Left ring d m → Waits p m
-      → Left ring (answerAt p d good .after) (respondTo (rules ring) effects m (answer good))
+  pub answer-leaves : (p : Phase) (m : Reached) (good : Bool) → At terms d p (stateOf m) → Left terms d m → Waits p m
+      → Left terms (answerAt p d good .after) (respondTo (rules terms) effects m (answer good))
   unfolding answerAt headAnswer blockAnswer releasing respondTo rules refuse
   answer-leaves p (waiting c t y b) true (F.headAsked a) l w = begins _ b (l .same) _
   answer-leaves p (waiting c t y b) false (F.headAsked a) l w = refuses d b (l .same) (plain 10) 0 c t w (omega arith)

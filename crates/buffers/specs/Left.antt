@@ -15,14 +15,14 @@ abbrev pub buffersIn : Configuration → Buffers
 buffersIn d = buffers (d .head) (d .block) (d .question)
 
 -- the reader and its buffers after one call
-unfoldable pub leftBy : KeyRing → Configuration → Invocation → Configuration
-leftBy keys d k = runCall keys d k .after
+unfoldable pub leftBy : KeyRing → List ℕ → Configuration → Invocation → Configuration
+leftBy keys uri d k = runCall keys uri d k .after
 
 -- one call after the other
-unfoldable pub leftFrom : KeyRing → Configuration → List Invocation → Configuration
-leftFrom keys d [] = d
-leftFrom keys d (k ∷ ks) = leftFrom keys (leftBy keys d k) ks
+unfoldable pub leftFrom : KeyRing → List ℕ → Configuration → List Invocation → Configuration
+leftFrom keys uri d [] = d
+leftFrom keys uri d (k ∷ ks) = leftFrom keys uri (leftBy keys uri d k) ks
 
 -- after a list of calls from a fresh reader, lent buffers of any first content
-unfoldable pub leftAfter : KeyRing → List ℕ → List ℕ → List ℕ → List Invocation → Buffers
-leftAfter keys h b q ks = buffersIn (leftFrom keys (configuration freshReader h b q) ks)
+unfoldable pub leftAfter : KeyRing → List ℕ → List ℕ → List ℕ → List ℕ → List Invocation → Buffers
+leftAfter keys uri h b q ks = buffersIn (leftFrom keys uri (configuration freshReader h b q) ks)

@@ -10,11 +10,11 @@ use lib.Dec.{leb}
 use lib.ListN.{length}
 use Rattle.octets.specs.Choice.{pick}
 use Rattle.refusals.specs.declared.Refusal.{Refusal}
-use Rattle.ring.specs.Keys.{ringOf}
+use Rattle.ring.specs.Keys.{termsOf}
 use Rattle.ring.specs.declared.KeyRing.{KeyRing}
 use Rattle.sections.specs.Calls.{Request, feed, answer, end}
 use Rattle.stream.specs.Limits.{blockLimit, headLimit, ringLimit}
-use Rattle.stream.specs.Ring.{Ring}
+use Rattle.stream.specs.Terms.{Terms}
 use Rattle.state.specs.Configuration.{Configuration, Next, on, stop, refuse, pending}
 use Rattle.state.specs.Run.{follow, runOf}
 use Rattle.state.specs.declared.phase.Phase.{Phase}
@@ -71,22 +71,22 @@ longer {d} {e} {c} l b =
     again (W.Closed total) n = tt
     again (W.Refused k) n = tt
 
-run-bound : (ring : Ring) (xs : List ℕ) (d : Configuration) (t : ℕ) → Bound d (fed (runOf (pushByte ring) d t xs))
+run-bound : (terms : Terms) (xs : List ℕ) (d : Configuration) (t : ℕ) → Bound d (fed (runOf (pushByte terms) d t xs))
 unfolding runOf
-run-bound ring [] d t = record { long = record { head = refl; block = refl; question = refl }; named = tt }
-run-bound ring (x ∷ xs) d t =
-    by (pushByte ring d x) (long-push ring d (d .reader .phase) x) (named-push ring d (d .reader .phase) x) (λ d′. run-bound ring xs d′ (t + 1))
+run-bound terms [] d t = record { long = record { head = refl; block = refl; question = refl }; named = tt }
+run-bound terms (x ∷ xs) d t =
+    by (pushByte terms d x) (long-push terms d (d .reader .phase) x) (named-push terms d (d .reader .phase) x) (λ d′. run-bound terms xs d′ (t + 1))
   where
-    by : (n : Next) → Long d (deskOf n) → NamedNext n d → ((d′ : Configuration) → Bound d′ (fed (runOf (pushByte ring) d′ (t + 1) xs)))
-        → Bound d (fed (follow n (t + 1) (λ d′. runOf (pushByte ring) d′ (t + 1) xs)))
+    by : (n : Next) → Long d (deskOf n) → NamedNext n d → ((d′ : Configuration) → Bound d′ (fed (runOf (pushByte terms) d′ (t + 1) xs)))
+        → Bound d (fed (follow n (t + 1) (λ d′. runOf (pushByte terms) d′ (t + 1) xs)))
     by (on d′) l m ih = longer l (ih d′)
     by (stop w signature d′) l m ih = record { long = l; named = m }
 
-feed-bound : (keys : KeyRing) (d : Configuration) (piece : List ℕ) → Bound d (feedOf keys d piece)
+feed-bound : (keys : KeyRing) (uri : List ℕ) (d : Configuration) (piece : List ℕ) → Bound d (feedOf keys uri d piece)
 unfolding feedOf takenFrom
-feed-bound keys d piece =
+feed-bound keys uri d piece =
     bound-pick d (fits d && leb (keys .count) ringLimit) _ _
-    (λ e. bound-pick d (isReading (d .reader .phase)) _ _ (λ f. longer (record { head = refl; block = refl; question = refl }) (run-bound (ringOf keys) piece (recalled d) 0)) (λ f. bound-unchanged d 1))
+    (λ e. bound-pick d (isReading (d .reader .phase)) _ _ (λ f. longer (record { head = refl; block = refl; question = refl }) (run-bound (termsOf keys uri) piece (recalled d) 0)) (λ f. bound-unchanged d 1))
     (λ e. bound-unchanged d 2)
 
 -- ---- an answer, and the end
@@ -131,7 +131,7 @@ end-bound d =
     (λ e. bound-unchanged d 2)
 
 -- EVERY CALL.
-pub call-bound : (keys : KeyRing) (d : Configuration) (r : Request) → Bound d (called keys d r)
-call-bound keys d (feed piece) = feed-bound keys d piece
-call-bound keys d (answer good) = answer-bound d good
-call-bound keys d end = end-bound d
+pub call-bound : (keys : KeyRing) (uri : List ℕ) (d : Configuration) (r : Request) → Bound d (called keys uri d r)
+call-bound keys uri d (feed piece) = feed-bound keys uri d piece
+call-bound keys uri d (answer good) = answer-bound d good
+call-bound keys uri d end = end-bound d

@@ -82,7 +82,7 @@ module _ (h b q : List ℕ) where
   long-loan = rw (le-leb stateSize (length (mine .state)) long-held) refl
 
   module _ (e : length h ≡ headLimit) (f : length b ≡ blockLimit) (g : length q ≡ headLimit) where
-    end-call : callIn (lentTo [] mine theEnd) end .after .reader ≡ ended
+    end-call : callIn (lentTo [] [] mine theEnd) end .after .reader ≡ ended
     end-call = ap (λ (r : Reader). endFront (configuration r h b q) .after .reader) fresh-held ∙ end-told h b q e f g
 
     met : BytesMet h b q
@@ -95,7 +95,7 @@ module _ (h b q : List ℕ) where
               (record {
                 whole = refl;
                 carried = λ l.
-                    ap (λ (a : _). decoded (a .state)) (exported-long (lentTo [] mine theEnd) end l)
+                    ap (λ (a : _). decoded (a .state)) (exported-long (lentTo [] [] mine theEnd) end l)
                     ∙ ap (λ (r : Reader). decoded (stored r (mine .state))) end-call
                     ∙ decoded-stored ended ended-sound (mine .state) long-held
                     ∙ sym end-call;

@@ -12,11 +12,12 @@ use Rattle.octets.specs.Choice.{pick}
 use Rattle.refusals.specs.declared.Refusal.{Refusal}
 use Rattle.stream.specs.Head.{isWholeHead, headOf, signingString, headFault, trustedBy}
 use Rattle.stream.specs.Limits.{blockLimit}
-use Rattle.stream.specs.Ring.{Ring, numberOf}
+use Rattle.stream.specs.Ring.{numberOf}
+use Rattle.stream.specs.Terms.{Terms}
 use Rattle.stream.proofs.SigningSize.{signing-fits}
-use Rattle.signing.specs.Judgement.{Judgement, asked, headJudged}
-use Rattle.signing.specs.declared.judging.HeadAnswer.{HeadAnswer}
-use Rattle.signing.specs.declared.judging.HeadAnswer.the-variants as H
+use Rattle.judging.specs.Judgement.{Judgement, asked, headJudged}
+use Rattle.judging.specs.declared.HeadAnswer.{HeadAnswer}
+use Rattle.judging.specs.declared.HeadAnswer.the-variants as H
 use Rattle.state.specs.Configuration.{Configuration, configuration, inPhase, Next, on, stop, refuse}
 use Rattle.state.specs.declared.phase.Phase.the-variants as P
 use Rattle.state.specs.declared.word.Word.{Word}
@@ -68,16 +69,16 @@ judges-pick m false j k f g = g refl
 front-long : (s q : List ℕ) → length s ≤ length q → length (s ++ drop (length s) q) ≡ length q
 front-long s q h = rw (length-append, length-drop) (omega arith)
 
-judges : (ring : Ring) (l q : List ℕ) → Judges (length q) (headJudged ring l q)
+judges : (terms : Terms) (l q : List ℕ) → Judges (length q) (headJudged terms l q)
 unfolding headJudged asked
-judges ring l q =
-    judges-pick (length q) (eqb (headFault ring l) 0) _ _
-    (λ e. judges-pick (length q) (leb (length l) (length q)) _ _ (λ f. fits (eqb-true (headFault ring l) 0 e) (leb-true (length l) (length q) f)) (λ f. record { long = refl; asks = tt }))
+judges terms l q =
+    judges-pick (length q) (eqb (headFault terms l) 0) _ _
+    (λ e. judges-pick (length q) (leb (length l) (length q)) _ _ (λ f. fits (eqb-true (headFault terms l) 0 e) (leb-true (length l) (length q) f)) (λ f. record { long = refl; asks = tt }))
     (λ e. record { long = refl; asks = tt })
   where
-    fits : headFault ring l ≡ 0 → length l ≤ length q → Judges (length q) (asked (numberOf (trustedBy ring (headOf l))) (headOf l) q)
+    fits : headFault terms l ≡ 0 → length l ≤ length q → Judges (length q) (asked (numberOf (trustedBy (terms .ring) (headOf l))) (headOf l) q)
     fits e f =
-        let m : length (signingString (headOf l)) ≤ length q = omega (arith, signing-fits ring l e) in
+        let m : length (signingString (headOf l)) ≤ length q = omega (arith, signing-fits terms l e) in
         record { long = front-long (signingString (headOf l)) q m; asks = m }
 
 module _ (d : Configuration) (n : ℕ) where
@@ -102,23 +103,23 @@ refused-long why count d = record { head = refl; block = length-cleared count (d
 long-trans : {d e f : Configuration} → Long d e → Long e f → Long d f
 long-trans l m = record { head = m .head ∙ l .head; block = m .block ∙ l .block; question = m .question ∙ l .question }
 
-pub head-long : (ring : Ring) (d : Configuration) (have x : ℕ) → Long d (deskOf (pushHead ring d have x))
+pub head-long : (terms : Terms) (d : Configuration) (have x : ℕ) → Long d (deskOf (pushHead terms d have x))
 unfolding pushHead headGathered
-head-long ring d have x =
+head-long terms d have x =
     let l = set (d .head) have x in
     let e = configuration (inPhase (d .reader) (P.Head (have + 1))) l (d .block) (d .question) in
     let s : Long d e = record { head = length-set (d .head) have x; block = refl; question = refl } in
-    let j = headJudged ring (take (have + 1) l) (d .question) in
-    let k : Long e (configuration (e .reader) l (d .block) (j .question)) = record { head = refl; block = refl; question = judges ring (take (have + 1) l) (d .question) .long } in
+    let j = headJudged terms (take (have + 1) l) (d .question) in
+    let k : Long e (configuration (e .reader) l (d .block) (j .question)) = record { head = refl; block = refl; question = judges terms (take (have + 1) l) (d .question) .long } in
     long-pick d (leb (length (d .head)) have) _ _ (refused-long _ 0 d)
     (long-pick d (isWholeHead (take (have + 1) l)) _ _ (long-trans s (long-trans k (answered-long _ (have + 1) (j .answer .answer) (j .answer .signature) (j .answer .id)))) s)
 
-pub head-named : (ring : Ring) (d : Configuration) (have x : ℕ) → NamedNext (pushHead ring d have x) d
+pub head-named : (terms : Terms) (d : Configuration) (have x : ℕ) → NamedNext (pushHead terms d have x) d
 unfolding pushHead headGathered
-head-named ring d have x =
+head-named terms d have x =
     let l = set (d .head) have x in
-    let j = headJudged ring (take (have + 1) l) (d .question) in
+    let j = headJudged terms (take (have + 1) l) (d .question) in
     named-pick d (leb (length (d .head)) have) _ _ (named-refuse _ 0 d d)
     (named-pick d (isWholeHead (take (have + 1) l)) _ _
-    (answered-named _ (have + 1) d (j .answer .answer) (j .answer .signature) (j .answer .id) (judges ring (take (have + 1) l) (d .question) .asks))
+    (answered-named _ (have + 1) d (j .answer .answer) (j .answer .signature) (j .answer .id) (judges terms (take (have + 1) l) (d .question) .asks))
     tt)

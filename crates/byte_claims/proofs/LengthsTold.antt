@@ -33,7 +33,7 @@ abbrev pub readerIn : Loan → Configuration
 readerIn l = configurationIn (l .state) (l .head) (l .block) (l .question)
 
 abbrev pub calledIn : Loan → Request → R.Response
-calledIn l r = called (keysIn (l .ring)) (firstParts (readerIn l)) r
+calledIn l r = called (keysIn (l .ring)) (l .uri) (firstParts (readerIn l)) r
 
 pub call-is : (l : Loan) (r : Request) → callIn l r ≡ backed (readerIn l) (calledIn l r)
 unfolding feedFront answerFront endFront

@@ -22,71 +22,71 @@ use Rattle.byte_claims.specs.OnBytes.{heldIn, seenIn, shown, invocations
 use Rattle.claims.proofs.Demand3.{demand-3}
 use Rattle.byte_claims.proofs.ShownCalls.{seen-held, Shows, same-shows, other-shows, other-untouched}
 
-next-shown : (ring : List ℕ) (ks : List ExportedCall) (told : List Answer) {y : Held} {a : Answer} {t : List ℕ} {c : R.Response} → Shows y a t c
-    → shown y ks told ≡ views (heldIn y) ks (made (keysIn ring) (heldIn y) (invocations ks))
-    → seenIn a y ∷ shown y ks told ≡ responseSeen t c ∷ views (c .after) ks (made (keysIn ring) (c .after) (invocations ks))
-next-shown ring ks told s ih =
-    λ i. s .seen i ∷ (ih ∙ ap (λ (d : Configuration). views d ks (made (keysIn ring) d (invocations ks))) (s .held)) i
+next-shown : (ring uri : List ℕ) (ks : List ExportedCall) (told : List Answer) {y : Held} {a : Answer} {t : List ℕ} {c : R.Response} → Shows y a t c
+    → shown y ks told ≡ views (heldIn y) ks (made (keysIn ring) uri (heldIn y) (invocations ks))
+    → seenIn a y ∷ shown y ks told ≡ responseSeen t c ∷ views (c .after) ks (made (keysIn ring) uri (c .after) (invocations ks))
+next-shown ring uri ks told s ih =
+    λ i. s .seen i ∷ (ih ∙ ap (λ (d : Configuration). views d ks (made (keysIn ring) uri d (invocations ks))) (s .held)) i
 
-all-shown : (ring : List ℕ) {x : Held} {ks : List ExportedCall} {told : List Answer} → stateSize ≤ length (x .state) → Calls ring x ks told
-    → shown x ks told ≡ views (heldIn x) ks (made (keysIn ring) (heldIn x) (invocations ks))
+all-shown : (ring uri : List ℕ) {x : Held} {ks : List ExportedCall} {told : List Answer} → stateSize ≤ length (x .state) → Calls ring uri x ks told
+    → shown x ks told ≡ views (heldIn x) ks (made (keysIn ring) uri (heldIn x) (invocations ks))
 unfolding shown views made invocations runCall
-all-shown ring h over = refl
-all-shown ring {x} h (next {k = same t r} {a = a} {ks = ks} {told = told} e k es) =
-    let s = same-shows ring x t r a h e k in
-    next-shown ring ks told s (all-shown ring (s .long) es)
-all-shown ring {x} h (next {k = other h′ b′ q′ ring′ t r misfit} {a = a} {ks = ks} {told = told} e k es) =
-    let s = other-shows x h′ b′ q′ ring′ t r misfit a h e k in
-    next-shown ring ks told s (all-shown ring (s .long) es)
-all-shown ring {x} h (next {k = tooShort l r} {a = a} {ks = ks} e k es) =
+all-shown ring uri h over = refl
+all-shown ring uri {x} h (next {k = same t r} {a = a} {ks = ks} {told = told} e k es) =
+    let s = same-shows ring uri x t r a h e k in
+    next-shown ring uri ks told s (all-shown ring uri (s .long) es)
+all-shown ring uri {x} h (next {k = other h′ b′ q′ ring′ uri′ t r misfit} {a = a} {ks = ks} {told = told} e k es) =
+    let s = other-shows x h′ b′ q′ ring′ uri′ t r misfit a h e k in
+    next-shown ring uri ks told s (all-shown ring uri (s .long) es)
+all-shown ring uri {x} h (next {k = tooShort l r} {a = a} {ks = ks} e k es) =
     let f = k .whole ∙ exported-short l r e in
     let s : seenIn a x ≡ seenOf short (l .result) (heldIn x) =
     seen-held x h a ∙ ap (λ (y : Answer). seenOf (y .word) (y .result) (heldIn x)) f
     in
-    λ i. s i ∷ all-shown ring h es i
+    λ i. s i ∷ all-shown ring uri h es i
 
-all-untouched : (ring : List ℕ) {x : Held} {ks : List ExportedCall} {told : List Answer} → stateSize ≤ length (x .state) → Calls ring x ks told → OthersUntouched ks told
-all-untouched ring h over = tt
-all-untouched ring {x} h (next {k = same t r} {a = a} e k es) = all-untouched ring (same-shows ring x t r a h e k .long) es
-all-untouched ring {x} h (next {k = other h′ b′ q′ ring′ t r misfit} {a = a} e k es) =
-    (other-untouched x h′ b′ q′ ring′ t r misfit a h e k, all-untouched ring (other-shows x h′ b′ q′ ring′ t r misfit a h e k .long) es)
-all-untouched ring h (next {k = tooShort l r} e k es) =
+all-untouched : (ring uri : List ℕ) {x : Held} {ks : List ExportedCall} {told : List Answer} → stateSize ≤ length (x .state) → Calls ring uri x ks told → OthersUntouched ks told
+all-untouched ring uri h over = tt
+all-untouched ring uri {x} h (next {k = same t r} {a = a} e k es) = all-untouched ring uri (same-shows ring uri x t r a h e k .long) es
+all-untouched ring uri {x} h (next {k = other h′ b′ q′ ring′ uri′ t r misfit} {a = a} e k es) =
+    (other-untouched x h′ b′ q′ ring′ uri′ t r misfit a h e k, all-untouched ring uri (other-shows x h′ b′ q′ ring′ uri′ t r misfit a h e k .long) es)
+all-untouched ring uri h (next {k = tooShort l r} e k es) =
     let f = k .whole ∙ exported-short l r e in (
       record { head = ap (λ (y : Answer). y .head) f; block = ap (λ (y : Answer). y .block) f; question = ap (λ (y : Answer). y .question) f },
-      (ap (λ (y : Answer). y .state) f, all-untouched ring h es),
+      (ap (λ (y : Answer). y .state) f, all-untouched ring uri h es),
     )
 
 -- what a caller of the reader sees of its calls
-run-views : (keys : KeyRing) (ks : List Invocation) (d : Configuration) → runFrom keys d ks ≡ map observed (made keys d ks)
+run-views : (keys : KeyRing) (uri : List ℕ) (ks : List Invocation) (d : Configuration) → runFrom keys uri d ks ≡ map observed (made keys uri d ks)
 unfolding runFrom made
-run-views keys [] d = refl
-run-views keys (k ∷ ks) d = ap (λ (l : List _). observed (runCall keys d k) ∷ l) (run-views keys ks (runCall keys d k .after))
+run-views keys uri [] d = refl
+run-views keys uri (k ∷ ks) d = ap (λ (l : List _). observed (runCall keys uri d k) ∷ l) (run-views keys uri ks (runCall keys uri d k .after))
 
 -- what the caller keeps after them is what the reader's calls leave
-all-held : (ring : List ℕ) {x : Held} {ks : List ExportedCall} {told : List Answer} → stateSize ≤ length (x .state) → Calls ring x ks told
-    → heldIn (heldAfter x ks told) ≡ leftFrom (keysIn ring) (heldIn x) (invocations ks)
+all-held : (ring uri : List ℕ) {x : Held} {ks : List ExportedCall} {told : List Answer} → stateSize ≤ length (x .state) → Calls ring uri x ks told
+    → heldIn (heldAfter x ks told) ≡ leftFrom (keysIn ring) uri (heldIn x) (invocations ks)
 unfolding heldAfter leftFrom leftBy invocations runCall
-all-held ring h over = refl
-all-held ring {x} h (next {k = same t r} {a = a} {ks = ks} e k es) =
-    let s = same-shows ring x t r a h e k in
-    all-held ring (s .long) es ∙ ap (λ (d : Configuration). leftFrom (keysIn ring) d (invocations ks)) (s .held)
-all-held ring {x} h (next {k = other h′ b′ q′ ring′ t r misfit} {a = a} {ks = ks} e k es) =
-    let s = other-shows x h′ b′ q′ ring′ t r misfit a h e k in
-    all-held ring (s .long) es ∙ ap (λ (d : Configuration). leftFrom (keysIn ring) d (invocations ks)) (s .held)
-all-held ring h (next {k = tooShort l r} e k es) = all-held ring h es
+all-held ring uri h over = refl
+all-held ring uri {x} h (next {k = same t r} {a = a} {ks = ks} e k es) =
+    let s = same-shows ring uri x t r a h e k in
+    all-held ring uri (s .long) es ∙ ap (λ (d : Configuration). leftFrom (keysIn ring) uri d (invocations ks)) (s .held)
+all-held ring uri {x} h (next {k = other h′ b′ q′ ring′ uri′ t r misfit} {a = a} {ks = ks} e k es) =
+    let s = other-shows x h′ b′ q′ ring′ uri′ t r misfit a h e k in
+    all-held ring uri (s .long) es ∙ ap (λ (d : Configuration). leftFrom (keysIn ring) uri d (invocations ks)) (s .held)
+all-held ring uri h (next {k = tooShort l r} e k es) = all-held ring uri h es
 
 pub on-bytes : HoldsOnBytes
 unfolding run leftAfter
-on-bytes ring x ks told h e c =
+on-bytes ring uri x ks told h e c =
     let keys = keysIn ring in
     record {
-      exported = all-shown ring h c;
+      exported = all-shown ring uri h c;
       plain =
-          sym (run-views keys (invocations ks) (heldIn x))
-          ∙ ap (λ (r : Reader). runFrom keys (firstParts (configuration r (x .head) (x .block) (x .question))) (invocations ks)) e
-          ∙ demand-3 keys (take headLimit (x .head)) (take blockLimit (x .block)) (take headLimit (x .question)) (invocations ks) .each-call;
+          sym (run-views keys uri (invocations ks) (heldIn x))
+          ∙ ap (λ (r : Reader). runFrom keys uri (firstParts (configuration r (x .head) (x .block) (x .question))) (invocations ks)) e
+          ∙ demand-3 keys uri (take headLimit (x .head)) (take blockLimit (x .block)) (take headLimit (x .question)) (invocations ks) .each-call;
       in-buffers =
-          ap buffersIn (all-held ring h c)
-          ∙ ap (λ (r : Reader). buffersIn (leftFrom keys (firstParts (configuration r (x .head) (x .block) (x .question))) (invocations ks))) e;
-      others = all-untouched ring h c;
+          ap buffersIn (all-held ring uri h c)
+          ∙ ap (λ (r : Reader). buffersIn (leftFrom keys uri (firstParts (configuration r (x .head) (x .block) (x .question))) (invocations ks))) e;
+      others = all-untouched ring uri h c;
     }

@@ -99,14 +99,14 @@ shows x a t c h w u e =
     }
 
 -- with the caller's own buffers
-module _ (ring : List ℕ) (x : Held) (t : List ℕ) (r : Request) (a : Answer) (h : stateSize ≤ length (x .state)) where
+module _ (ring uri : List ℕ) (x : Held) (t : List ℕ) (r : Request) (a : Answer) (h : stateSize ≤ length (x .state)) where
   abbrev ours : Loan
-  ours = loan (x .state) (x .head) (x .block) (x .question) ring t
+  ours = loan (x .state) (x .head) (x .block) (x .question) ring uri t
 
-  pub same-shows : isLong ours ≡ true → Kept ours r a → Shows (keptAfter x (same t r) a) a t (called (keysIn ring) (heldIn x) r)
+  pub same-shows : isLong ours ≡ true → Kept ours r a → Shows (keptAfter x (same t r) a) a t (called (keysIn ring) uri (heldIn x) r)
   same-shows m k =
       let c = calledIn ours r in
-      let b = call-bound (keysIn ring) (heldIn x) r .long in
+      let b = call-bound (keysIn ring) uri (heldIn x) r .long in
       let e : a ≡ answered (x .state) t (backed (readerIn ours) c) = k .whole ∙ answer-is ours r m in
       let d : decoded (a .state) ≡ c .after .reader = k .carried m ∙ ap (λ (c : R.Response). c .after .reader) (call-is ours r) in
       let f : heldIn (keptAfter x (same t r) a) ≡ c .after =
@@ -138,26 +138,26 @@ fits-front : (h b q : List ℕ) (keys : KeyRing) (r : Request) → loanFits (tak
 unfolding loanFits haveRoom
 fits-front h b q keys r = rw (leb-front headLimit h, leb-front blockLimit b, leb-front headLimit q)
 
-module _ (x : Held) (h b q ring t : List ℕ) (r : Request) (misfit : loanFits h b q (keysIn ring) r ≡ false) (a : Answer) (long : stateSize ≤ length (x .state)) where
+module _ (x : Held) (h b q ring uri t : List ℕ) (r : Request) (misfit : loanFits h b q (keysIn ring) r ≡ false) (a : Answer) (long : stateSize ≤ length (x .state)) where
   abbrev theirs : Loan
-  theirs = loan (x .state) h b q ring t
+  theirs = loan (x .state) h b q ring uri t
 
   refused-two : calledIn theirs r ≡ unchanged 2 (firstParts (readerIn theirs))
   refused-two =
-      misfit-unchanged (decoded (x .state)) (take headLimit h) (take blockLimit b) (take headLimit q) (keysIn ring) r (fits-front h b q (keysIn ring) r ∙ misfit)
+      misfit-unchanged (decoded (x .state)) (take headLimit h) (take blockLimit b) (take headLimit q) (keysIn ring) uri r (fits-front h b q (keysIn ring) r ∙ misfit)
 
   module _ (m : isLong theirs ≡ true) (k : Kept theirs r a) where
     refused-answer : a ≡ answered (x .state) t (backed (readerIn theirs) (unchanged 2 (firstParts (readerIn theirs))))
     refused-answer = k .whole ∙ answer-is theirs r m ∙ ap (λ (c : R.Response). answered (x .state) t (backed (readerIn theirs) c)) refused-two
 
-    pub other-shows : Shows (keptAfter x (other h b q ring t r misfit) a) a t (aside (keysIn ring) (heldIn x) (configuration (decoded (x .state)) h b q) r)
+    pub other-shows : Shows (keptAfter x (other h b q ring uri t r misfit) a) a t (aside (keysIn ring) uri (heldIn x) (configuration (decoded (x .state)) h b q) r)
     other-shows =
         let e = refused-answer in
         let d : decoded (a .state) ≡ decoded (x .state) =
         k .carried m ∙ ap (λ (c : R.Response). c .after .reader) (call-is theirs r) ∙ ap (λ (c : R.Response). c .after .reader) refused-two
         in
-        rw (misfit-unchanged (decoded (x .state)) h b q (keysIn ring) r misfit)
-        (shows (keptAfter x (other h b q ring t r misfit) a) a t (unchanged 2 (heldIn x)) (long-state-of (x .state) t _ a e long)
+        rw (misfit-unchanged (decoded (x .state)) h b q (keysIn ring) uri r misfit)
+        (shows (keptAfter x (other h b q ring uri t r misfit) a) a t (unchanged 2 (heldIn x)) (long-state-of (x .state) t _ a e long)
         (ap (λ (y : Answer). y .word) e) (ap (λ (y : Answer). y .result) e)
         (ap (λ (r : Reader). firstParts (configuration r (x .head) (x .block) (x .question))) d))
 

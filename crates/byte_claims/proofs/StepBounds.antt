@@ -17,9 +17,9 @@ use Rattle.stream.specs.Blocks.{isWholeLine}
 use Rattle.stream.specs.Bytes.{same}
 use Rattle.stream.specs.Limits.{lineLimit}
 use Rattle.stream.specs.Lines.{crlf}
-use Rattle.stream.specs.Ring.{Ring}
+use Rattle.stream.specs.Terms.{Terms}
 use Rattle.stream.specs.Trailer.{isWholeTrailer, isTrailer}
-use Rattle.signing.specs.Judgement.{asked}
+use Rattle.judging.specs.Judgement.{asked}
 use Rattle.state.specs.Configuration.{Configuration, Next}
 use Rattle.state.specs.declared.phase.Phase.{Phase}
 use Rattle.state.specs.declared.phase.Phase.the-variants as P
@@ -59,36 +59,36 @@ named-next d e size (A.Good next) signature p = rw p (count-fits _ (d .question)
 of-kept : {d : Configuration} {n : Next} → Kept d n → Long d (deskOf n)
 of-kept k = record { head = ap length (k .head); block = k .block; question = k .question }
 
-pub long-push : (ring : Ring) (d : Configuration) (p : Phase) (x : ℕ) → Long d (deskOf (pushAt ring p d x))
+pub long-push : (terms : Terms) (d : Configuration) (p : Phase) (x : ℕ) → Long d (deskOf (pushAt terms p d x))
 unfolding pushAt
-long-push ring d (P.Head have) x = head-long ring d have x
-long-push ring d (P.HeadAsked n) x = record { head = refl; block = refl; question = refl }
-long-push ring d (P.FirstLine have) x = of-kept (kept-first-line d have x)
-long-push ring d (P.Data have size) x = of-kept (kept-data d have size x)
-long-push ring d (P.DataEnd have size) x = of-kept (kept-data-end d have size x)
-long-push ring d (P.NextLine have size) x = of-kept (kept-next-line d have size x)
-long-push ring d (P.BlockAsked size next) x = record { head = refl; block = refl; question = refl }
-long-push ring d (P.Trailer have total) x = of-kept (kept-trailer d have total x)
-long-push ring d (P.Closed total) x = record { head = refl; block = refl; question = refl }
-long-push ring d (P.Refused n) x = record { head = refl; block = refl; question = refl }
+long-push terms d (P.Head have) x = head-long terms d have x
+long-push terms d (P.HeadAsked n) x = record { head = refl; block = refl; question = refl }
+long-push terms d (P.FirstLine have) x = of-kept (kept-first-line d have x)
+long-push terms d (P.Data have size) x = of-kept (kept-data d have size x)
+long-push terms d (P.DataEnd have size) x = of-kept (kept-data-end d have size x)
+long-push terms d (P.NextLine have size) x = of-kept (kept-next-line d have size x)
+long-push terms d (P.BlockAsked size next) x = record { head = refl; block = refl; question = refl }
+long-push terms d (P.Trailer have total) x = of-kept (kept-trailer d have total x)
+long-push terms d (P.Closed total) x = record { head = refl; block = refl; question = refl }
+long-push terms d (P.Refused n) x = record { head = refl; block = refl; question = refl }
 
-pub named-push : (ring : Ring) (d : Configuration) (p : Phase) (x : ℕ) → NamedNext (pushAt ring p d x) d
+pub named-push : (terms : Terms) (d : Configuration) (p : Phase) (x : ℕ) → NamedNext (pushAt terms p d x) d
 unfolding pushAt pushData pushDataEnd pushFirstLine firstGathered pushNextLine nextGathered pushTrailer trailerGathered
-named-push ring d (P.Head have) x = head-named ring d have x
-named-push ring d (P.HeadAsked n) x = tt
-named-push ring d (P.FirstLine have) x =
+named-push terms d (P.Head have) x = head-named terms d have x
+named-push terms d (P.HeadAsked n) x = tt
+named-push terms d (P.FirstLine have) x =
     named-pick d (leb lineLimit have) _ _ (named-refuse _ 0 d d)
     (named-pick d (isWholeLine (take (have + 1) (set (d .reader .line) have x))) _ _ (named-first _ d _) tt)
-named-push ring d (P.Data have size) x = named-pick d (leb (length (d .block)) have) _ _ (named-refuse _ have d d) tt
-named-push ring d (P.DataEnd have size) x =
+named-push terms d (P.Data have size) x = named-pick d (leb (length (d .block)) have) _ _ (named-refuse _ have d d) tt
+named-push terms d (P.DataEnd have size) x =
     named-pick d (eqb have 0) _ _ tt (named-pick d (same (getD (d .reader .line) 0 0 ∷ x ∷ []) crlf) _ _ tt (named-refuse _ size d d))
-named-push ring d (P.NextLine have size) x =
+named-push terms d (P.NextLine have size) x =
     named-pick d (leb lineLimit have) _ _ (named-refuse _ size d d)
     (named-pick d (isWholeLine (take (have + 1) (set (d .reader .line) have x))) _ _ (named-next _ d size _ _ refl) tt)
-named-push ring d (P.BlockAsked size next) x = tt
-named-push ring d (P.Trailer have total) x =
+named-push terms d (P.BlockAsked size next) x = tt
+named-push terms d (P.Trailer have total) x =
     let text = take (have + 1) (set (d .block) have x) in
     named-pick d (leb (length (d .block)) have) _ _ (named-refuse _ have d d)
     (named-pick d (isWholeTrailer text) _ _ (named-pick d (isTrailer text) _ _ tt (named-refuse _ (have + 1) _ d)) tt)
-named-push ring d (P.Closed total) x = tt
-named-push ring d (P.Refused n) x = tt
+named-push terms d (P.Closed total) x = tt
+named-push terms d (P.Refused n) x = tt

@@ -1,12 +1,13 @@
 -- No call of the reader takes more than it is given, whatever the state: a feed no more than its piece, an answer and an end nothing.
 -- Assumes nothing.
 use mathlib.Core.Bool.{Bool, true, false, _&&_}
+use mathlib.Core.List.{List}
 use Prim.Native.Nat.{ℕ, _≤_}
 use native.Mathlib.Omega.{arith}
 use lib.Dec.{leb}
 use Rattle.octets.specs.Choice.{pick}
 use Rattle.refusals.specs.declared.Refusal.{Refusal}
-use Rattle.ring.specs.Keys.{ringOf}
+use Rattle.ring.specs.Keys.{termsOf}
 use Rattle.ring.specs.declared.KeyRing.{KeyRing}
 use Rattle.sections.specs.Calls.{Request, feed, answer, end}
 use Rattle.stream.specs.Limits.{ringLimit}
@@ -41,11 +42,11 @@ answer-taken (P.Trailer have total) d good = omega arith
 answer-taken (P.Closed total) d good = omega arith
 answer-taken (P.Refused n) d good = omega arith
 
-pub call-taken : (keys : KeyRing) (d : Configuration) (r : Request) → called keys d r .taken ≤ atMost r
+pub call-taken : (keys : KeyRing) (uri : List ℕ) (d : Configuration) (r : Request) → called keys uri d r .taken ≤ atMost r
 unfolding feedOf takenFrom answerOf endOf
-call-taken keys d (feed piece) =
+call-taken keys uri d (feed piece) =
     taken-pick _ (fits d && leb (keys .count) ringLimit) _ _
-    (taken-pick _ (isReading (d .reader .phase)) _ _ (omega (arith, run-takes (pushByte (ringOf keys)) (recalled d) 0 piece .most)) (omega arith))
+    (taken-pick _ (isReading (d .reader .phase)) _ _ (omega (arith, run-takes (pushByte (termsOf keys uri)) (recalled d) 0 piece .most)) (omega arith))
     (omega arith)
-call-taken keys d (answer good) = taken-pick 0 (fits d) _ _ (answer-taken (d .reader .phase) d good) (omega arith)
-call-taken keys d end = taken-pick 0 (fits d) _ _ (taken-pick 0 (isReading (d .reader .phase)) _ _ (refused-taken 0 _ _ (recalled d)) (omega arith)) (omega arith)
+call-taken keys uri d (answer good) = taken-pick 0 (fits d) _ _ (answer-taken (d .reader .phase) d good) (omega arith)
+call-taken keys uri d end = taken-pick 0 (fits d) _ _ (taken-pick 0 (isReading (d .reader .phase)) _ _ (refused-taken 0 _ _ (recalled d)) (omega arith)) (omega arith)

@@ -37,10 +37,10 @@ module _ (l : Loan) (r : Request) where
   stays-long : isLong l ≡ true → StaysWithin l r (answered (l .state) (l .result) (backed (readerIn l) (calledIn l r)))
   stays-long e =
       let d = readerIn l in
-      let b = call-bound (keysIn (l .ring)) (firstParts d) r in
+      let b = call-bound (keysIn (l .ring)) (l .uri) (firstParts d) r in
       let room = long-result (l .state) (l .result) e in
       record {
-        taken = λ w. omega (arith, call-taken (keysIn (l .ring)) (firstParts d) r, taken-in (calledIn l r .word) (calledIn l r .taken) (calledIn l r .signature) (l .result) room);
+        taken = λ w. omega (arith, call-taken (keysIn (l .ring)) (l .uri) (firstParts d) r, taken-in (calledIn l r .word) (calledIn l r .taken) (calledIn l r .signature) (l .result) room);
         question = question-within d (calledIn l r .taken) (calledIn l r .signature) (l .result) room (calledIn l r .word) (b .named);
         block = block-within d (calledIn l r .taken) (calledIn l r .signature) (l .result) room (calledIn l r .word) (b .named);
         head-beyond = rest-back headLimit (l .head) (calledIn l r .after .head) (b .long .head);
@@ -67,7 +67,7 @@ module _ (l : Loan) (r : Request) where
   -- the first parts after it are those of the reader's call
   first-long : isLong l ≡ true → firstLeft (exported l r) ≡ answered (l .state) (l .result) (calledIn l r)
   first-long e =
-      let b = call-bound (keysIn (l .ring)) (firstParts (readerIn l)) r in
+      let b = call-bound (keysIn (l .ring)) (l .uri) (firstParts (readerIn l)) r in
       ap firstLeft (answer-is l r e)
       ∙ rw (
         front-back headLimit (l .head) (calledIn l r .after .head) (b .long .head),
@@ -89,7 +89,7 @@ by-first l r = by (isLong l) refl
     by : (t : Bool) → isLong l ≡ t → firstLeft (exported l r) ≡ firstLeft (exported (firstLent l) r)
     by true e =
         first-long l r e
-        ∙ sym (ap (λ (d : Configuration). answered (l .state) (l .result) (called (keysIn (l .ring)) d r)) (same-front l))
+        ∙ sym (ap (λ (d : Configuration). answered (l .state) (l .result) (called (keysIn (l .ring)) (l .uri) d r)) (same-front l))
         ∙ sym (first-long (firstLent l) r e)
     by false e =
         rw (

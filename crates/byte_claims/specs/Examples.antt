@@ -23,7 +23,7 @@ module _ (h b q : List ℕ) where
   pub record BytesMet : Type 0 where
     pub long : stateSize ≤ length (held .state)
     pub fresh : decoded (held .state) ≡ freshReader
-    pub calls : Calls [] held (theEnd ∷ []) (exported (lentTo [] held theEnd) end ∷ [])
+    pub calls : Calls [] [] held (theEnd ∷ []) (exported (lentTo [] [] held theEnd) end ∷ [])
 
 abbrev pub CallsAreMet : Type 0
 CallsAreMet = (h b q : List ℕ) → length h ≡ headLimit → length b ≡ blockLimit → length q ≡ headLimit → BytesMet h b q

@@ -3,7 +3,7 @@ use mathlib.Core.List.{List, [], _∷_, map}
 use mathlib.Core.Path.{_≡_}
 use Prim.Native.Nat.{ℕ, _≤_}
 use lib.ListN.{length, take}
-use Rattle.ring.specs.Keys.{ringOf}
+use Rattle.ring.specs.Keys.{termsOf}
 use Rattle.ring.specs.declared.KeyRing.{KeyRing}
 use Rattle.stream.specs.Limits.{headLimit, blockLimit}
 use Rattle.state.specs.Configuration.{Configuration, freshReader}
@@ -61,13 +61,13 @@ shown x (k ∷ ks) (a ∷ told) = seenIn a (keptAfter x k a) ∷ shown (keptAfte
 unfoldable pub invocations : List ExportedCall → List Invocation
 invocations [] = []
 invocations (same t r ∷ ks) = Run.same r ∷ invocations ks
-invocations (other h b q ring t r misfit ∷ ks) = Run.other h b q (keysIn ring) r misfit ∷ invocations ks
+invocations (other h b q ring uri t r misfit ∷ ks) = Run.other h b q (keysIn ring) uri r misfit ∷ invocations ks
 invocations (tooShort l r ∷ ks) = invocations ks
 
 -- one after the other, each with the reader and the buffers that the one before left
-unfoldable pub made : KeyRing → Configuration → List Invocation → List R.Response
-made keys d [] = []
-made keys d (k ∷ ks) = runCall keys d k ∷ made keys (runCall keys d k .after) ks
+unfoldable pub made : KeyRing → List ℕ → Configuration → List Invocation → List R.Response
+made keys uri d [] = []
+made keys uri d (k ∷ ks) = runCall keys uri d k ∷ made keys uri (runCall keys uri d k .after) ks
 
 -- what a caller of the reader would see in the exported calls' place: `block_part` and `field_part` hand the two parts out, `field_count` tells
 -- the count
@@ -91,8 +91,8 @@ unfoldable pub views : Configuration → List ExportedCall → List R.Response �
 views d [] cs = []
 views d (same t r ∷ ks) [] = []
 views d (same t r ∷ ks) (c ∷ cs) = responseSeen t c ∷ views (c .after) ks cs
-views d (other h b q ring t r misfit ∷ ks) [] = []
-views d (other h b q ring t r misfit ∷ ks) (c ∷ cs) = responseSeen t c ∷ views (c .after) ks cs
+views d (other h b q ring uri t r misfit ∷ ks) [] = []
+views d (other h b q ring uri t r misfit ∷ ks) (c ∷ cs) = responseSeen t c ∷ views (c .after) ks cs
 views d (tooShort l r ∷ ks) cs = seenOf short (l .result) d ∷ views d ks cs
 
 -- What is lent besides, to a call that is refused with 2 for it or answered 255, comes back as it was.
@@ -105,7 +105,7 @@ abbrev pub OthersUntouched : List ExportedCall → List Answer → Type 0
 OthersUntouched [] told = Unit {0}
 OthersUntouched (k ∷ ks) [] = Unit {0}
 OthersUntouched (same t r ∷ ks) (a ∷ told) = OthersUntouched ks told
-OthersUntouched (other h b q ring t r misfit ∷ ks) (a ∷ told) = Untouched h b q a × OthersUntouched ks told
+OthersUntouched (other h b q ring uri t r misfit ∷ ks) (a ∷ told) = Untouched h b q a × OthersUntouched ks told
 OthersUntouched (tooShort l r ∷ ks) (a ∷ told) = Untouched (l .head) (l .block) (l .question) a × ((a .state ≡ l .state) × OthersUntouched ks told)
 
 -- what the caller keeps after all of them
@@ -117,7 +117,7 @@ heldAfter x (k ∷ ks) (a ∷ told) = heldAfter (keptAfter x k a) ks told
 -- One list of the reader's calls stands behind all: the exported calls show it as numbers and bytes; what a caller of the reader sees of it
 -- is what the plain reading gives; and what is left in the buffers is what these calls leave (Left). The buffers of the run are the first
 -- parts of those lent.
-module _ (ring : List ℕ) (x : Held) (ks : List ExportedCall) where
+module _ (ring uri : List ℕ) (x : Held) (ks : List ExportedCall) where
   abbrev pub keys : KeyRing
   keys = keysIn ring
 
@@ -131,14 +131,14 @@ module _ (ring : List ℕ) (x : Held) (ks : List ExportedCall) where
   questionPart = take headLimit (x .question)
 
   pub record SameCalls (told : List Answer) : Type 0 where
-    pub exported : shown x ks told ≡ views (heldIn x) ks (made keys (heldIn x) (invocations ks))
-    pub plain : map observed (made keys (heldIn x) (invocations ks)) ≡ plainTrace (ringOf keys) (plainCalls keys headPart blockPart questionPart (invocations ks))
-    pub in-buffers : buffersIn (heldIn (heldAfter x ks told)) ≡ leftAfter keys headPart blockPart questionPart (invocations ks)
+    pub exported : shown x ks told ≡ views (heldIn x) ks (made keys uri (heldIn x) (invocations ks))
+    pub plain : map observed (made keys uri (heldIn x) (invocations ks)) ≡ plainTrace (termsOf keys uri) (plainCalls keys headPart blockPart questionPart (invocations ks))
+    pub in-buffers : buffersIn (heldIn (heldAfter x ks told)) ≡ leftAfter keys uri headPart blockPart questionPart (invocations ks)
     pub others : OthersUntouched ks told
 
 -- ON BYTES: so it is for every list of exported calls that are answered as their contracts say, from a state that `ouinet_reader_fresh` has
 -- written.
 abbrev pub HoldsOnBytes : Type 0
 HoldsOnBytes =
-    (ring : List ℕ) (x : Held) (ks : List ExportedCall) (told : List Answer) → stateSize ≤ length (x .state) → decoded (x .state) ≡ freshReader
-    → Calls ring x ks told → SameCalls ring x ks told
+    (ring uri : List ℕ) (x : Held) (ks : List ExportedCall) (told : List Answer) → stateSize ≤ length (x .state) → decoded (x .state) ≡ freshReader
+    → Calls ring uri x ks told → SameCalls ring uri x ks told

@@ -39,7 +39,7 @@ pub record StaysWithin (l : Loan) (r : Request) (a : Answer) : Type 0 where
 -- with just the first parts of the three working buffers
 abbrev pub firstLent : Loan → Loan
 firstLent l =
-    loan (l .state) (take headLimit (l .head)) (take blockLimit (l .block)) (take headLimit (l .question)) (l .ring) (l .result)
+    loan (l .state) (take headLimit (l .head)) (take blockLimit (l .block)) (take headLimit (l .question)) (l .ring) (l .uri) (l .result)
 
 abbrev pub firstLeft : Answer → Answer
 firstLeft a =

@@ -5,8 +5,8 @@ use Rattle.sections.specs.Calls.{Request, Call, Reply, more, event, misused, Ou
 use Rattle.sections.specs.Machine.{State, running, runFrom, runCalls}
 use Rattle.sections.proofs.Cutting.{calls-agree}
 use Rattle.stream.specs.Events.{Question, Release, LastWord}
-use Rattle.stream.specs.Ring.{Ring}
 use Rattle.stream.specs.Stream.{Context, head, rules}
+use Rattle.stream.specs.Terms.{Terms}
 use Rattle.agreement.specs.Due.{Between}
 use Rattle.agreement.specs.Observation.{Told, outs}
 use Rattle.agreement.specs.Plain.{toldWord, Handed, nothing, traceFrom, plainTrace}
@@ -35,12 +35,12 @@ word-in ends = tt
 word-in grants = tt
 word-in closes = tt
 
-module _ (ring : Ring) where
-  calls-in : (ks : List Call) (s : State Context Release LastWord) (h : Handed) → AllIn (outs (traceFrom h ks (runFrom (rules ring) s ks)))
+module _ (terms : Terms) where
+  calls-in : (ks : List Call) (s : State Context Release LastWord) (h : Handed) → AllIn (outs (traceFrom h ks (runFrom (rules terms) s ks)))
   unfolding outs traceFrom runFrom
   calls-in [] s h = tt
-  calls-in (k ∷ ks) s h = (word-in (turn-moves ring s k), calls-in ks _ _)
+  calls-in (k ∷ ks) s h = (word-in (turn-moves terms s k), calls-in ks _ _)
 
-  pub trace-in : (ks : List Call) → AllIn (outs (plainTrace ring ks))
+  pub trace-in : (ks : List Call) → AllIn (outs (plainTrace terms ks))
   unfolding plainTrace runCalls
-  trace-in ks = rw (sym (ap (traceFrom nothing ks) (calls-agree (rules ring) head ks))) (calls-in ks (running head []) nothing)
+  trace-in ks = rw (sym (ap (traceFrom nothing ks) (calls-agree (rules terms) head ks))) (calls-in ks (running head []) nothing)

@@ -4,15 +4,15 @@ use mathlib.Core.Bool.{true}
 use mathlib.Core.List.{List, [], append-nil}
 use Prim.Native.Nat.{ℕ, suc}
 use lib.ListN.{length, replicate}
-use Rattle.ring.specs.Keys.{ringOf}
+use Rattle.ring.specs.Keys.{termsOf}
 use Rattle.ring.specs.declared.KeyRing.{KeyRing}
 use Rattle.sections.specs.Reading.{last}
 use Rattle.sections.specs.Calls.{Call, Out}
 use Rattle.sections.specs.Machine.{runCalls}
 use Rattle.sections.specs.Resuming.{events, bytesTaken, answersHeard}
 use Rattle.stream.specs.Events.{Question, Release, LastWord, closed}
-use Rattle.stream.specs.Ring.{Ring}
 use Rattle.stream.specs.Stream.{head, rules}
+use Rattle.stream.specs.Terms.{Terms}
 use Rattle.agreement.specs.Plain.{toldLog, plainTrace}
 use Rattle.agreement.specs.Run.{Invocation, plainCalls}
 use Rattle.agreement.proofs.Streams.{answers-told, bytes-told, outs-run, shown-events}
@@ -25,36 +25,36 @@ use Rattle.claims.proofs.Untold.{stands-told, stands-untold, last-from}
 
 -- ---- the run
 
-module _ (keys : KeyRing) (h b q : List ℕ) (ks : List Invocation) where
-  abbrev ring : Ring
-  ring = ringOf keys
+module _ (keys : KeyRing) (uri h b q : List ℕ) (ks : List Invocation) where
+  abbrev terms : Terms
+  terms = termsOf keys uri
 
   abbrev calls : List Call
   calls = plainCalls keys h b q ks
 
   abbrev machine : List (Out Question Release LastWord)
-  machine = runCalls (rules ring) head calls
+  machine = runCalls (rules terms) head calls
 
-  events-same : events (words keys h b q ks) ≡ toldLog (events machine)
-  events-same = rw (demand-3 keys h b q ks .each-call) (shown-events ring calls)
+  events-same : events (words keys uri h b q ks) ≡ toldLog (events machine)
+  events-same = rw (demand-3 keys uri h b q ks .each-call) (shown-events terms calls)
 
-  taken-same : taken keys h b q ks ≡ bytesTaken calls machine
+  taken-same : taken keys uri h b q ks ≡ bytesTaken calls machine
   unfolding plainTrace
-  taken-same = rw (demand-3 keys h b q ks .each-call, outs-run ring calls) (bytes-told calls machine)
+  taken-same = rw (demand-3 keys uri h b q ks .each-call, outs-run terms calls) (bytes-told calls machine)
 
-  answers-same : answers keys h b q ks ≡ answersHeard calls machine
+  answers-same : answers keys uri h b q ks ≡ answersHeard calls machine
   unfolding plainTrace
-  answers-same = rw (demand-3 keys h b q ks .each-call, outs-run ring calls) (answers-told calls machine)
+  answers-same = rw (demand-3 keys uri h b q ks .each-call, outs-run terms calls) (answers-told calls machine)
 
-  pub closes-exactly : ClosesExactly keys h b q ks
+  pub closes-exactly : ClosesExactly keys uri h b q ks
   closes-exactly =
       record {
         exactly = λ at total.
-            let x = run-closes ring calls at total in
+            let x = run-closes terms calls at total in
             rw (events-same, taken-same, answers-same)
             (λ s. x .0 (stands-untold at (last (closed total)) (events machine) (λ e f. last-from e (closed total) f) s), λ t. stands-told at (last (closed total)) (events machine) (x .1 t));
         whole-body = λ at total t.
-            honest-comes-out keys h b q ks (t .show) [] (t .honest) (t .stream)
+            honest-comes-out keys uri h b q ks (t .show) [] (t .honest) (t .stream)
             (t .yeses ∙ sym (append-nil (replicate (suc (length (t .show .chunks))) true)))
             .whole-body;
       }

@@ -65,12 +65,12 @@ entry-counts at more log = sym (nothing-together (logTold log))
 entry-counts at (event e) log = refl
 entry-counts at (misused n) log = sym (nothing-together (logTold log))
 
-words-counted : (keys : KeyRing) (d : Configuration) (ks : List Invocation) (at : ℕ) → wordsCount (wordsFrom keys d ks) ≡ logTold (placed at (outs (runFrom keys d ks)))
+words-counted : (keys : KeyRing) (uri : List ℕ) (d : Configuration) (ks : List Invocation) (at : ℕ) → wordsCount (wordsFrom keys uri d ks) ≡ logTold (placed at (outs (runFrom keys uri d ks)))
 unfolding wordsCount wordsFrom placed outs runFrom observed
-words-counted keys d [] at = refl
-words-counted keys d (k ∷ ks) at =
-    let c = runCall keys d k in
-    let e = words-counted keys (c .after) ks (at + c .taken) in
+words-counted keys uri d [] at = refl
+words-counted keys uri d (k ∷ ks) at =
+    let c = runCall keys uri d k in
+    let e = words-counted keys uri (c .after) ks (at + c .taken) in
     rw (word-seen (c .word) (c .signature) (c .after), e, entry-counts (at + c .taken) (wordSeen (c .word) (c .signature) (c .after)))
 
 told-counts : (log : Log Question Release LastWord) → logTold (toldLog log) ≡ countsOf log
@@ -85,10 +85,10 @@ told-counts (x ∷ log) = rw (one (x .1), told-counts log)
     one (last (closed total)) = refl
     one (last (refused n at)) = refl
 
-run-counted : (keys : KeyRing) (h b q : List ℕ) (ks : List Invocation) → wordsCount (wordsOfRun keys h b q ks) ≡ countsOf (eventsRead keys h b q ks)
+run-counted : (keys : KeyRing) (uri h b q : List ℕ) (ks : List Invocation) → wordsCount (wordsOfRun keys uri h b q ks) ≡ countsOf (eventsRead keys uri h b q ks)
 unfolding wordsOfRun run
-run-counted keys h b q ks =
-    words-counted keys (configuration freshReader h b q) ks 0 ∙ ap logTold (demand-3 keys h b q ks .all-taken) ∙ told-counts (eventsRead keys h b q ks)
+run-counted keys uri h b q ks =
+    words-counted keys uri (configuration freshReader h b q) ks 0 ∙ ap logTold (demand-3 keys uri h b q ks .all-taken) ∙ told-counts (eventsRead keys uri h b q ks)
 
 -- ---- of a day
 
@@ -101,9 +101,9 @@ day-counted : (ss : List Sitting) → wordsCount (dayWords ss) ≡ countsOf (day
 unfolding dayWords dayEvents wordsCount countsOf
 day-counted [] = refl
 day-counted (s ∷ ss) =
-    words-append (wordsOfRun (s .keys) (s .head) (s .block) (s .question) (s .calls)) (dayWords ss)
-    ∙ ap₂ together (run-counted (s .keys) (s .head) (s .block) (s .question) (s .calls)) (day-counted ss)
-    ∙ sym (counts-append (eventsRead (s .keys) (s .head) (s .block) (s .question) (s .calls)) (dayEvents ss))
+    words-append (wordsOfRun (s .keys) (s .uri) (s .head) (s .block) (s .question) (s .calls)) (dayWords ss)
+    ∙ ap₂ together (run-counted (s .keys) (s .uri) (s .head) (s .block) (s .question) (s .calls)) (day-counted ss)
+    ∙ sym (counts-append (eventsRead (s .keys) (s .uri) (s .head) (s .block) (s .question) (s .calls)) (dayEvents ss))
 
 pub day-tally : (ss : List Sitting) → TalliesTheDay ss
 day-tally ss = tally-of-words (dayWords ss) ∙ ap shown (day-counted ss)

@@ -2,6 +2,7 @@
 use mathlib.Core.Path.{_≡_, refl, sym, _∙_}
 use mathlib.Core.Bool.{Bool, true, false, _&&_}
 use mathlib.Core.List.{List}
+use Prim.Native.Nat.{ℕ}
 use borrow.Author.Tests.{lt-leb}
 use lib.ListN.{length}
 use Rattle.ring.specs.declared.KeyRecord.{KeyRecord}
@@ -17,32 +18,32 @@ use Rattle.agreement.specs.Loans.{haveRoom}
 use Rattle.agreement.proofs.Lists.{misfit-unchanged}
 use Rattle.agreement.proofs.Misuse.{undue-unchanged, due-fine}
 use Rattle.agreement.proofs.Taking.{feed-takes}
-use Rattle.agreement.proofs.RingUse.{ring-unread}
+use Rattle.agreement.proofs.TermsUse.{terms-unread}
 use Rattle.agreement.proofs.Signatures.{unsigned-call}
-use Rattle.claims.specs.Demand1.{RefusalsChangeNothing, TakesSome, RingNotRead, OnlyQuestionsSigned, LentRefusalsChangeNothing, SeventeenRefused, ShortBlock, ShortHead}
+use Rattle.claims.specs.Demand1.{RefusalsChangeNothing, TakesSome, TermsNotRead, OnlyQuestionsSigned, LentRefusalsChangeNothing, SeventeenRefused, ShortBlock, ShortHead}
 use Rattle.claims.proofs.LentCalls.{called-lent, loan-lent}
 
-pub demand-1 : (keys : KeyRing) (d : Configuration) (r : Request) → RefusalsChangeNothing keys d r
-demand-1 keys d r =
+pub demand-1 : (keys : KeyRing) (uri : List ℕ) (d : Configuration) (r : Request) → RefusalsChangeNothing keys uri d r
+demand-1 keys uri d r =
     record {
-      two = misfit-unchanged (d .reader) (d .head) (d .block) (d .question) keys r;
-      one = undue-unchanged keys d r;
-      neither = due-fine keys d r;
+      two = misfit-unchanged (d .reader) (d .head) (d .block) (d .question) keys uri r;
+      one = undue-unchanged keys uri d r;
+      neither = due-fine keys uri d r;
     }
 
-pub takes-some : (keys : KeyRing) (d : Configuration) → TakesSome keys d
-takes-some keys d x xs e f = feed-takes keys d x xs e f
+pub takes-some : (keys : KeyRing) (uri : List ℕ) (d : Configuration) → TakesSome keys uri d
+takes-some keys uri d x xs e f = feed-takes keys uri d x xs e f
 
-pub ring-not-read : (keys : KeyRing) (d : Configuration) → RingNotRead keys d
-ring-not-read keys d keys′ piece e f g = ring-unread keys keys′ d piece e f g
+pub terms-not-read : (keys : KeyRing) (uri : List ℕ) (d : Configuration) → TermsNotRead keys uri d
+terms-not-read keys uri d keys′ uri′ piece e f g = terms-unread keys keys′ uri uri′ d piece e f g
 
-pub only-questions-signed : (keys : KeyRing) (d : Configuration) → OnlyQuestionsSigned keys d
-only-questions-signed keys d r e = unsigned-call keys d r e
+pub only-questions-signed : (keys : KeyRing) (uri : List ℕ) (d : Configuration) → OnlyQuestionsSigned keys uri d
+only-questions-signed keys uri d r e = unsigned-call keys uri d r e
 
-pub lent-demand-1 : (records : List KeyRecord) (d : Configuration) (r : Request) → LentRefusalsChangeNothing records d r
-lent-demand-1 records d r =
-    let c = demand-1 (keysOf records) d r in
-    let e = called-lent records d r in
+pub lent-demand-1 : (records : List KeyRecord) (uri : List ℕ) (d : Configuration) (r : Request) → LentRefusalsChangeNothing records uri d r
+lent-demand-1 records uri d r =
+    let c = demand-1 (keysOf records) uri d r in
+    let e = called-lent records uri d r in
     let l = loan-lent (d .head) (d .block) (d .question) records r in
     record {
       two = λ f. e ∙ c .two (sym l ∙ f);
@@ -55,8 +56,8 @@ none-fits true = refl
 none-fits false = refl
 
 pub seventeen-refused : SeventeenRefused
-seventeen-refused records d piece m =
-    lent-demand-1 records d (feed piece) .two
+seventeen-refused records uri d piece m =
+    lent-demand-1 records uri d (feed piece) .two
     (rw (lt-leb (length records) ringLimit m) (none-fits (haveRoom (d .head) (d .block) (d .question))))
 
 pub short-block : ShortBlock

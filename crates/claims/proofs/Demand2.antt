@@ -2,7 +2,7 @@
 use mathlib.Core.Path.{_≡_, ap, _∙_}
 use mathlib.Core.List.{List, [], append-nil}
 use Prim.Native.Nat.{ℕ}
-use Rattle.ring.specs.Keys.{ringOf}
+use Rattle.ring.specs.Keys.{ringOf, termsOf}
 use Rattle.ring.specs.declared.KeyRing.{KeyRing}
 use Rattle.sections.specs.Resuming.{events}
 use Rattle.agreement.specs.Plain.{toldLog}
@@ -17,15 +17,15 @@ use Rattle.claims.specs.Runs.{words, taken, answers, ended}
 use Rattle.claims.proofs.Told.{block-told, told-block, body-told}
 use Rattle.claims.proofs.Demand3.{demand-3}
 
-module _ (keys : KeyRing) (h b q : List ℕ) (ks : List Invocation) where
-  pub block-comes-out : BlockComesOut keys h b q ks
+module _ (keys : KeyRing) (uri h b q : List ℕ) (ks : List Invocation) where
+  pub block-comes-out : BlockComesOut keys uri h b q ks
   block-comes-out at o bytes =
-      let x = block-exact (ringOf keys) (taken keys h b q ks) (answers keys h b q ks) (ended keys h b q ks) at o bytes in
-      rw (demand-3 keys h b q ks .all-taken) (λ s. x .0 (told-block at o bytes _ s), λ r. block-told at o bytes _ (x .1 r))
+      let x = block-exact (termsOf keys uri) (taken keys uri h b q ks) (answers keys uri h b q ks) (ended keys uri h b q ks) at o bytes in
+      rw (demand-3 keys uri h b q ks .all-taken) (λ s. x .0 (told-block at o bytes _ s), λ r. block-told at o bytes _ (x .1 r))
 
-  pub honest-comes-out : HonestComesOut keys h b q ks
+  pub honest-comes-out : HonestComesOut keys uri h b q ks
   honest-comes-out s more g t a =
-      let r = rw (append-nil (streamOf s)) at (show-complete (ringOf keys) s [] more (ended keys h b q ks) g) in
-      let e : events (words keys h b q ks) ≡ toldLog (showEvents (ringOf keys) s) =
-      demand-3 keys h b q ks .all-taken ∙ rw (t, a) (ap toldLog r) in
-      record { all-events = e; whole-body = ap bodyTold e ∙ body-told (showEvents (ringOf keys) s) ∙ show-released (ringOf keys) s g }
+      let r = rw (append-nil (streamOf s)) at (show-complete (termsOf keys uri) s [] more (ended keys uri h b q ks) g) in
+      let e : events (words keys uri h b q ks) ≡ toldLog (showEvents (ringOf keys) s) =
+      demand-3 keys uri h b q ks .all-taken ∙ rw (t, a) (ap toldLog r) in
+      record { all-events = e; whole-body = ap bodyTold e ∙ body-told (showEvents (ringOf keys) s) ∙ show-released (termsOf keys uri) s g }

@@ -15,8 +15,8 @@ loans-will-do keys h b q m n k few =
     (rw (le-leb headLimit (length h) m, le-leb blockLimit (length b) n, le-leb headLimit (length q) k), le-leb (keys .count) ringLimit few)
 
 pub callers-cuttings : CallersCuttings
-callers-cuttings keys h b q room few given stream lengths lengths′ m =
-    let x = caller-finishes keys h b q room few lengths given stream in
-    let y = caller-finishes keys h b q room few lengths′ given stream in
-    two-cuttings keys h b q h b q stream (ordinaryCalls keys h b q lengths given stream) (ordinaryCalls keys h b q lengths′ given stream)
+callers-cuttings keys uri h b q room few given stream lengths lengths′ m =
+    let x = caller-finishes keys uri h b q room few lengths given stream in
+    let y = caller-finishes keys uri h b q room few lengths′ given stream in
+    two-cuttings keys uri h b q h b q stream (ordinaryCalls keys uri h b q lengths given stream) (ordinaryCalls keys uri h b q lengths′ given stream)
     (x .resumes) (y .resumes) (x .answered ∙ sym (y .answered)) (x .is-over m) (y .is-over m)

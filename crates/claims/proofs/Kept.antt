@@ -1,20 +1,41 @@
 -- KEPT FROM BEFORE: the plain reading keeps it, and the calls show the plain reading. Assumes nothing.
+use mathlib.Core.Bool.{Bool}
 use mathlib.Core.List.{List}
-use mathlib.Core.Path.{ap, _∙_}
+use mathlib.Core.Path.{_≡_, ap, _∙_}
 use Prim.Native.Nat.{ℕ}
-use Rattle.ring.specs.Keys.{ringOf}
+use Rattle.ring.specs.Keys.{termsOf}
 use Rattle.ring.specs.declared.KeyRing.{KeyRing}
+use Rattle.sections.specs.Reading.{Log}
+use Rattle.sections.specs.Resuming.{events}
+use Rattle.stream.specs.Events.{Question, Release, LastWord}
+use Rattle.stream.specs.Stream.{plainReading}
 use Rattle.agreement.specs.Plain.{toldLog}
 use Rattle.agreement.specs.Run.{Invocation}
+use Rattle.kept.proofs.OtherShow.{refused-where-not}
 use Rattle.kept.proofs.SameEvents.{same-events}
+use Rattle.kept.proofs.SameShow.{same-where-asked}
 use Rattle.claims.specs.Kept.{KeptFromBefore}
-use Rattle.claims.specs.Runs.{taken, answers, ended}
+use Rattle.claims.specs.Runs.{words, taken, answers, ended}
 use Rattle.claims.proofs.Demand3.{demand-3}
 
-pub kept-from-before : (keys : KeyRing) (h b q : List ℕ) (ks : List Invocation) → KeptFromBefore keys h b q ks
-kept-from-before keys h b q ks =
-    record {
-      same-events = λ never.
-          demand-3 keys h b q ks .all-taken
-          ∙ ap toldLog (same-events (ringOf keys) (taken keys h b q ks) (answers keys h b q ks) (ended keys h b q ks) never);
-    }
+module _ (keys : KeyRing) (uri h b q : List ℕ) (ks : List Invocation) where
+  abbrev stream : List ℕ
+  stream = taken keys uri h b q ks
+
+  abbrev given : List Bool
+  given = answers keys uri h b q ks
+
+  abbrev told : Bool
+  told = ended keys uri h b q ks
+
+  -- what the plain reading of the bytes taken equals is what the calls show
+  shown : (log : Log Question Release LastWord) → plainReading (termsOf keys uri) stream given told ≡ log → events (words keys uri h b q ks) ≡ toldLog log
+  shown log e = demand-3 keys uri h b q ks .all-taken ∙ ap toldLog e
+
+  pub kept-from-before : KeptFromBefore keys uri h b q ks
+  kept-from-before =
+      record {
+        same-events = λ never. shown _ (same-events (termsOf keys uri) stream given told never);
+        same-where-asked = λ e. shown _ (same-where-asked (termsOf keys uri) stream given told e);
+        refused-where-not = λ n. shown _ (refused-where-not (termsOf keys uri) stream given told n);
+      }

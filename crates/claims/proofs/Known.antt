@@ -9,8 +9,8 @@ use Rattle.sections.specs.Resuming.{request, entry, placed, events}
 use Rattle.sections.proofs.Cutting.{calls-agree}
 use Rattle.stream.specs.Events.{Question, Release, headAccepted, block, LastWord}
 use Rattle.stream.specs.Fields.{valueOf, valuesOf}
-use Rattle.stream.specs.Ring.{Ring}
 use Rattle.stream.specs.Stream.{Context, head, rules}
+use Rattle.stream.specs.Terms.{Terms}
 use Rattle.agreement.specs.Observation.{Values, Told, Observation, Trace, outs}
 use Rattle.agreement.specs.Observation as S
 use Rattle.agreement.specs.Plain.{valuesIn, told, toldWord, blockLeft, Handed, nothing, handedAfter, observes, traceFrom, plainTrace}
@@ -90,28 +90,28 @@ one-known : (log m : ToldLog) (at : ℕ) (rest : Trace) (o o′ : Observation) �
 unfolding placed outs
 one-known log m at rest o o′ e f k = rw (← e, f, append-nil m) k
 
-module _ (ring : Ring) where
+module _ (terms : Terms) where
   last-known : (ks : List Call) (s : State Context Release LastWord) (h : Handed) (log : ToldLog) (at : ℕ) (o : Observation) (earlier : Trace)
-      → KnownAt log h s → earlier ++ o ∷ [] ≡ traceFrom h ks (runFrom (rules ring) s ks)
-      → Known (log ++ placed at (outs (traceFrom h ks (runFrom (rules ring) s ks)))) (o .block) (o .values)
+      → KnownAt log h s → earlier ++ o ∷ [] ≡ traceFrom h ks (runFrom (rules terms) s ks)
+      → Known (log ++ placed at (outs (traceFrom h ks (runFrom (rules terms) s ks)))) (o .block) (o .values)
   unfolding traceFrom outs placed runFrom
   last-known [] s h log at o [] k x = absurd (cons-ne-nil _ _ x)
   last-known [] s h log at o (z ∷ zs) k x = absurd (cons-ne-nil _ _ x)
   last-known (c ∷ ks) s h log at o [] k x =
-      let w = turn (rules ring) s c .0 in
-      let n = call-known log (at + w .1) h (turn-moves ring s c) k in
+      let w = turn (rules terms) s c .0 in
+      let n = call-known log (at + w .1) h (turn-moves terms s c) k in
       one-known log (entry (at + w .1) (toldWord (w .0))) (at + w .1) _ o (observes (handedAfter h (request c) (w .0)) w) (tail-eq-of-cons-eq x) (head-eq-of-cons-eq x) (n .handed)
   last-known (c ∷ ks) s h log at o (z ∷ zs) k x =
-      let w = turn (rules ring) s c .0 in
-      let n = call-known log (at + w .1) h (turn-moves ring s c) k in
+      let w = turn (rules terms) s c .0 in
+      let n = call-known log (at + w .1) h (turn-moves terms s c) k in
       rw (← append-assoc log (entry (at + w .1) (toldWord (w .0))))
-      (last-known ks (turn (rules ring) s c .1) (handedAfter h (request c) (w .0)) (log ++ entry (at + w .1) (toldWord (w .0))) (at + w .1) o zs n (tail-eq-of-cons-eq x))
+      (last-known ks (turn (rules terms) s c .1) (handedAfter h (request c) (w .0)) (log ++ entry (at + w .1) (toldWord (w .0))) (at + w .1) o zs n (tail-eq-of-cons-eq x))
 
   -- WHAT IS SEEN of the last call.
-  pub seen-known : (ks : List Call) (o : Observation) → Last o (plainTrace ring ks) → Known (events (outs (plainTrace ring ks))) (o .block) (o .values)
+  pub seen-known : (ks : List Call) (o : Observation) → Last o (plainTrace terms ks) → Known (events (outs (plainTrace terms ks))) (o .block) (o .values)
   unfolding plainTrace runCalls valueOf valuesOf
   seen-known ks o s =
-      let e = sym (ap (traceFrom nothing ks) (calls-agree (rules ring) head ks)) in
+      let e = sym (ap (traceFrom nothing ks) (calls-agree (rules terms) head ks)) in
       rw e
       (last-known ks (running head []) nothing [] 0 o (s .earlier)
       (record { handed = record { block = no-block refl; values = no-value (λ name. refl) (λ name. refl) }; quiet = tt }) (s .joined ∙ e))

@@ -12,9 +12,9 @@ use Rattle.agreement.specs.Loans.{haveRoom, ringFits, loanFits}
 use Rattle.claims.specs.Lent.{tableFits, lentFits, SameByValue}
 
 pub called-lent : SameByValue
-called-lent records d (feed piece) = sym (feed-lent records d piece)
-called-lent records d (answer good) = refl
-called-lent records d end = refl
+called-lent records uri d (feed piece) = sym (feed-lent records uri d piece)
+called-lent records uri d (answer good) = refl
+called-lent records uri d end = refl
 
 fits-lent : (records : List KeyRecord) (r : Request) → tableFits records r ≡ ringFits (keysOf records) r
 fits-lent records (feed piece) = sym (count-fits records)

@@ -18,30 +18,30 @@ use Rattle.claims.proofs.LentCalls.{called-lent, loan-lent}
 -- the same call, with the ring by value
 abbrev pub byValue : LentCall → Invocation
 byValue (same r) = Run.same r
-byValue (other h b q records r misfit) = Run.other h b q (keysOf records) r (sym (loan-lent h b q records r) ∙ misfit)
+byValue (other h b q records uri r misfit) = Run.other h b q (keysOf records) uri r (sym (loan-lent h b q records r) ∙ misfit)
 
 abbrev pub allByValue : List LentCall → List Invocation
 allByValue [] = []
 allByValue (k ∷ ks) = byValue k ∷ allByValue ks
 
-module _ (records : List KeyRecord) where
-  call-lent : (d : Configuration) (k : LentCall) → lentRunCall records d k ≡ runCall (keysOf records) d (byValue k)
+module _ (records : List KeyRecord) (uri : List ℕ) where
+  call-lent : (d : Configuration) (k : LentCall) → lentRunCall records uri d k ≡ runCall (keysOf records) uri d (byValue k)
   unfolding lentRunCall runCall
-  call-lent d (same r) = called-lent records d r
-  call-lent d (other h b q records′ r misfit) =
+  call-lent d (same r) = called-lent records uri d r
+  call-lent d (other h b q records′ uri′ r misfit) =
       ap (λ (c : R.Response). R.response (c .word) (c .taken) (c .signature) (configuration (c .after .reader) (d .head) (d .block) (d .question)))
-      (called-lent records′ (configuration (d .reader) h b q) r)
+      (called-lent records′ uri′ (configuration (d .reader) h b q) r)
 
-  run-lent : (ks : List LentCall) (d : Configuration) → lentRunFrom records d ks ≡ runFrom (keysOf records) d (allByValue ks)
+  run-lent : (ks : List LentCall) (d : Configuration) → lentRunFrom records uri d ks ≡ runFrom (keysOf records) uri d (allByValue ks)
   unfolding lentRunFrom runFrom
   run-lent [] d = refl
   run-lent (k ∷ ks) d =
       let e = call-lent d k in
-      λ i. observed (e i) ∷ (ap (λ (c : R.Response). lentRunFrom records (c .after) ks) e ∙ run-lent ks (runCall (keysOf records) d (byValue k) .after)) i
+      λ i. observed (e i) ∷ (ap (λ (c : R.Response). lentRunFrom records uri (c .after) ks) e ∙ run-lent ks (runCall (keysOf records) uri d (byValue k) .after)) i
 
   module _ (h b q : List ℕ) where
     -- A run with lent tables is the run with the ring by value, so that all that is claimed of the one holds of the other.
-    pub lent-run : (ks : List LentCall) → lentRun records h b q ks ≡ run (keysOf records) h b q (allByValue ks)
+    pub lent-run : (ks : List LentCall) → lentRun records uri h b q ks ≡ run (keysOf records) uri h b q (allByValue ks)
     unfolding lentRun run
     lent-run ks = run-lent ks (configuration freshReader h b q)
 
@@ -50,13 +50,13 @@ module _ (records : List KeyRecord) where
     unfolding plainLentCalls plainCalls
     plain-lent [] = refl
     plain-lent (same r ∷ ks) = λ i. S.call (loan-lent h b q records r i) r ∷ plain-lent ks i
-    plain-lent (other h′ b′ q′ records′ r misfit ∷ ks) = λ i. S.call false r ∷ plain-lent ks i
+    plain-lent (other h′ b′ q′ records′ uri′ r misfit ∷ ks) = λ i. S.call false r ∷ plain-lent ks i
 
 pub lent-ring : HoldsForLentRing
-lent-ring records h b q ks m =
-    let e = lent-run records h b q ks in
-    let p = plain-lent records h b q ks in
-    let c = demand-3 (keysOf records) h b q (allByValue ks) in
+lent-ring records uri h b q ks m =
+    let e = lent-run records uri h b q ks in
+    let p = plain-lent records uri h b q ks in
+    let c = demand-3 (keysOf records) uri h b q (allByValue ks) in
     record {
       each-call = rw (← ring-lent records m, p) (e ∙ c .each-call);
       all-taken = rw (← ring-lent records m, p, e) (c .all-taken);

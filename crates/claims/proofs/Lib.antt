@@ -19,5 +19,6 @@ pub mod Refused
 pub mod Numbers
 pub mod Closed
 pub mod Left
+pub mod AskedFor
 pub mod Kept
 pub mod Examples

@@ -5,7 +5,7 @@ use mathlib.Core.List.{List, [], _++_, append-nil}
 use Prim.Native.Nat.{ℕ, suc}
 use lib.Dec.{leb}
 use lib.ListN.{length, replicate}
-use Rattle.ring.specs.Keys.{ringOf}
+use Rattle.ring.specs.Keys.{termsOf}
 use Rattle.ring.specs.declared.KeyRing.{KeyRing}
 use Rattle.sections.specs.Calls.{Request, feed, answer, end}
 use Rattle.sections.specs.Machine.{runCalls}
@@ -27,7 +27,7 @@ use Rattle.claims.proofs.Alongside.{plain-calls, words-alike}
 use Rattle.claims.proofs.Demand2.{honest-comes-out}
 use Rattle.claims.proofs.Demand3.{demand-3}
 
-module _ (keys : KeyRing) (h b q : List ℕ) (room : haveRoom h b q ≡ true) (few : leb (keys .count) ringLimit ≡ true) where
+module _ (keys : KeyRing) (uri h b q : List ℕ) (room : haveRoom h b q ≡ true) (few : leb (keys .count) ringLimit ≡ true) where
   one-fits : (r : Request) → loanFits h b q keys r ≡ true
   unfolding loanFits
   one-fits (feed piece) = rw (few, room)
@@ -35,15 +35,15 @@ module _ (keys : KeyRing) (h b q : List ℕ) (room : haveRoom h b q ≡ true) (f
   one-fits end = rw room
 
   finishes : (lengths : List ℕ) (given : List Bool) (stream : List ℕ)
-      → ReadToItsEnd keys h b q (ordinaryCalls keys h b q lengths given stream) stream given
+      → ReadToItsEnd keys uri h b q (ordinaryCalls keys uri h b q lengths given stream) stream given
   unfolding plainReading
   finishes lengths given stream =
-      let ks = ordinaryCalls keys h b q lengths given stream in
-      let m = Finishing.caller-finishes (rules (ringOf keys)) head lengths given stream in
-      let p = plain-calls keys h b q one-fits lengths given stream in
-      let a = words-alike keys h b q one-fits lengths given stream in
-      let e : events (words keys h b q ks) ≡ toldLog (events (runCalls (rules (ringOf keys)) head (callsOver (rules (ringOf keys)) head lengths given stream))) =
-      rw (demand-3 keys h b q ks .each-call, p) (shown-events (ringOf keys) _) in
+      let ks = ordinaryCalls keys uri h b q lengths given stream in
+      let m = Finishing.caller-finishes (rules (termsOf keys uri)) head lengths given stream in
+      let p = plain-calls keys uri h b q one-fits lengths given stream in
+      let a = words-alike keys uri h b q one-fits lengths given stream in
+      let e : events (words keys uri h b q ks) ≡ toldLog (events (runCalls (rules (termsOf keys uri)) head (callsOver (rules (termsOf keys uri)) head lengths given stream))) =
+      rw (demand-3 keys uri h b q ks .each-call, p) (shown-events (termsOf keys uri) _) in
       record {
         resumes = rw p (alike-resumes stream _ a (m .resumes));
         all-events = e ∙ ap toldLog (m .all-events);
@@ -51,25 +51,25 @@ module _ (keys : KeyRing) (h b q : List ℕ) (room : haveRoom h b q ≡ true) (f
         is-over = λ i. alike-stands 0 a ∙ m .is-over i;
       }
 
-  reached : (s : WholeShow) (lengths : List ℕ) (others : List Bool) → Honest (ringOf keys) s
-      → Reached keys h b q (ordinaryCalls keys h b q lengths (replicate (suc (length (s .chunks))) true ++ others) (streamOf s)) s
+  reached : (s : WholeShow) (lengths : List ℕ) (others : List Bool) → Honest (termsOf keys uri) s
+      → Reached keys uri h b q (ordinaryCalls keys uri h b q lengths (replicate (suc (length (s .chunks))) true ++ others) (streamOf s)) s
   reached s lengths others g =
       let given = replicate (suc (length (s .chunks))) true ++ others in
-      let ks = ordinaryCalls keys h b q lengths given (streamOf s) in
-      let m = Reaching.honest-reached (ringOf keys) s lengths others g in
-      let p = plain-calls keys h b q one-fits lengths given (streamOf s) in
-      let a = words-alike keys h b q one-fits lengths given (streamOf s) in
-      let t : taken keys h b q ks ≡ streamOf s = rw p (alike-took _ a ∙ m .took) in
-      let y : answers keys h b q ks ≡ replicate (suc (length (s .chunks))) true = rw p (alike-answers _ a ∙ m .yeses) in
+      let ks = ordinaryCalls keys uri h b q lengths given (streamOf s) in
+      let m = Reaching.honest-reached (termsOf keys uri) s lengths others g in
+      let p = plain-calls keys uri h b q one-fits lengths given (streamOf s) in
+      let a = words-alike keys uri h b q one-fits lengths given (streamOf s) in
+      let t : taken keys uri h b q ks ≡ streamOf s = rw p (alike-took _ a ∙ m .took) in
+      let y : answers keys uri h b q ks ≡ replicate (suc (length (s .chunks))) true = rw p (alike-answers _ a ∙ m .yeses) in
       record {
         resumes = rw p (alike-resumes (streamOf s) _ a (m .resumes));
         took = t;
         yeses = y;
-        whole = honest-comes-out keys h b q ks s [] g t (y ∙ sym (append-nil _));
+        whole = honest-comes-out keys uri h b q ks s [] g t (y ∙ sym (append-nil _));
       }
 
-pub caller-finishes : (keys : KeyRing) (h b q : List ℕ) → CallerFinishes keys h b q
-caller-finishes keys h b q room few lengths given stream = finishes keys h b q room few lengths given stream
+pub caller-finishes : (keys : KeyRing) (uri h b q : List ℕ) → CallerFinishes keys uri h b q
+caller-finishes keys uri h b q room few lengths given stream = finishes keys uri h b q room few lengths given stream
 
-pub honest-reached : (keys : KeyRing) (h b q : List ℕ) → HonestReached keys h b q
-honest-reached keys h b q room few s lengths others g = reached keys h b q room few s lengths others g
+pub honest-reached : (keys : KeyRing) (uri h b q : List ℕ) → HonestReached keys uri h b q
+honest-reached keys uri h b q room few s lengths others g = reached keys uri h b q room few s lengths others g

@@ -1,7 +1,7 @@
 -- Refusals, exactly. Assumes nothing.
 use mathlib.Core.List.{List}
 use Prim.Native.Nat.{ℕ}
-use Rattle.ring.specs.Keys.{ringOf}
+use Rattle.ring.specs.Keys.{termsOf}
 use Rattle.ring.specs.declared.KeyRing.{KeyRing}
 use Rattle.sections.specs.Reading.{last}
 use Rattle.stream.specs.Events.{refused}
@@ -12,9 +12,9 @@ use Rattle.claims.specs.Runs.{taken, answers, ended}
 use Rattle.claims.proofs.Demand3.{demand-3}
 use Rattle.claims.proofs.Untold.{stands-told, stands-untold, last-from}
 
-module _ (keys : KeyRing) (h b q : List ℕ) (ks : List Invocation) where
-  pub refused-exactly : RefusedExactly keys h b q ks
+module _ (keys : KeyRing) (uri h b q : List ℕ) (ks : List Invocation) where
+  pub refused-exactly : RefusedExactly keys uri h b q ks
   refused-exactly at n wrong =
-      let x = exactness (ringOf keys) (taken keys h b q ks) (answers keys h b q ks) (ended keys h b q ks) at (last (refused n wrong)) in
-      rw (demand-3 keys h b q ks .all-taken)
+      let x = exactness (termsOf keys uri) (taken keys uri h b q ks) (answers keys uri h b q ks) (ended keys uri h b q ks) at (last (refused n wrong)) in
+      rw (demand-3 keys uri h b q ks .all-taken)
       (λ s. x .0 (stands-untold at (last (refused n wrong)) _ (λ e f. last-from e (refused n wrong) f) s), λ r. stands-told at (last (refused n wrong)) _ (x .1 r))

@@ -8,8 +8,8 @@ use Rattle.sections.specs.Calls.{Request, feed, answer, end, Call, call, Reply,
 use Rattle.sections.specs.Machine.{State, running, asked, finished, Turn, Step, on, decides, ruling, follow, replied, gathered, step, fed, respond, turn}
 use Rattle.sections.specs.Resuming.{request}
 use Rattle.stream.specs.Events.{Question, Release, LastWord}
-use Rattle.stream.specs.Ring.{Ring}
 use Rattle.stream.specs.Stream.{Context, rules}
+use Rattle.stream.specs.Terms.{Terms}
 use Rattle.agreement.specs.Due.{Between}
 
 abbrev At : Type 0
@@ -37,7 +37,7 @@ one = record { least = omega arith; most = omega arith }
 two : Between 1 2 2
 two = record { least = omega arith; most = omega arith }
 
-module _ (ring : Ring) where
+module _ (terms : Terms) where
   -- a feed
   module _ (c : Context) (g piece : List ℕ) where
     abbrev StepMoves : Step Context Question Release LastWord → Type 0
@@ -50,8 +50,8 @@ module _ (ring : Ring) where
     ruling-moves (ask q y) = asks
     ruling-moves (stop l) = stops
 
-    gathered-moves : (t : Bool) (c′ : Context) (g′ : List ℕ) → StepMoves (gathered (rules ring) t c′ g′)
-    gathered-moves true c′ g′ = ruling-moves (rules ring .judge c′ g′)
+    gathered-moves : (t : Bool) (c′ : Context) (g′ : List ℕ) → StepMoves (gathered (rules terms) t c′ g′)
+    gathered-moves true c′ g′ = ruling-moves (rules terms .judge c′ g′)
     gathered-moves false c′ g′ = tt
 
     follow-moves : (x : Step Context Question Release LastWord) (rest : Context → List ℕ → Turn Context Question Release LastWord) → StepMoves x
@@ -59,18 +59,18 @@ module _ (ring : Ring) where
     follow-moves (on c′ g′) rest m h = h c′ g′
     follow-moves (decides e s) rest m h = m
 
-    fed-moves : (bs : List ℕ) (c′ : Context) (g′ : List ℕ) → MovesBy (running c g) (feed piece) (fed (rules ring) c′ g′ bs)
+    fed-moves : (bs : List ℕ) (c′ : Context) (g′ : List ℕ) → MovesBy (running c g) (feed piece) (fed (rules terms) c′ g′ bs)
     unfolding fed step
     fed-moves [] c′ g′ = reads
     fed-moves (b ∷ bs) c′ g′ =
-        follow-moves (step (rules ring) c′ g′ b) (λ c″ g″. fed (rules ring) c″ g″ bs)
-        (gathered-moves (rules ring .whole c′ (g′ ++ b ∷ [])) c′ (g′ ++ b ∷ [])) (λ c″ g″. fed-moves bs c″ g″)
+        follow-moves (step (rules terms) c′ g′ b) (λ c″ g″. fed (rules terms) c″ g″ bs)
+        (gathered-moves (rules terms .whole c′ (g′ ++ b ∷ [])) c′ (g′ ++ b ∷ [])) (λ c″ g″. fed-moves bs c″ g″)
 
   replied-moves : (y z : Gives) (a : Bool) → MovesBy (asked z) (answer a) (replied y)
   replied-moves (granted e c) z a = grants
   replied-moves (final l) z a = closes
 
-  respond-moves : (s : At) (r : Request) → MovesBy s r (respond (rules ring) s r)
+  respond-moves : (s : At) (r : Request) → MovesBy s r (respond (rules terms) s r)
   unfolding respond
   respond-moves (running c g) (feed piece) = fed-moves c g piece piece c g
   respond-moves (running c g) (answer a) = refuses one
@@ -81,7 +81,7 @@ module _ (ring : Ring) where
   respond-moves (asked y) end = refuses one
   respond-moves finished r = refuses one
 
-  pub turn-moves : (s : At) (k : Call) → MovesBy s (request k) (turn (rules ring) s k)
+  pub turn-moves : (s : At) (k : Call) → MovesBy s (request k) (turn (rules terms) s k)
   unfolding turn
   turn-moves s (call false r) = refuses two
   turn-moves s (call true r) = respond-moves s r

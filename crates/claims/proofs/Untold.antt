@@ -11,6 +11,7 @@ use Rattle.agreement.specs.Observation.{Values, Told}
 use Rattle.agreement.specs.Observation as S
 use Rattle.agreement.specs.Plain.{valuesIn, toldEvent, toldLog}
 use Rattle.agreement.proofs.Streams.{log-append}
+use Rattle.exactness.specs.AskedFor.{isLast}
 use Rattle.exactness.specs.Telling.{StreamEvent, Stands}
 
 abbrev pub ToldEvent : Type 0
@@ -102,10 +103,11 @@ head-from (last l) status values x = absurd (true≢false (sym (ap isHead x)))
 
 -- ---- a last word
 
-abbrev isLast : ToldEvent → Bool
-isLast (question q) = false
-isLast (message e) = false
-isLast (last l) = true
+-- what is told of an event is a last word where the event is
+pub last-told : (e : StreamEvent) → isLast (toldEvent e) ≡ isLast e
+last-told (question q) = refl
+last-told (message e) = refl
+last-told (last l) = refl
 
 abbrev lastOr : LastWord → ToldEvent → LastWord
 lastOr l (question q) = l

@@ -30,34 +30,35 @@ pub record ChangesNothing (willDo : Bool) (d : Configuration) (r : Request) (c :
   pub one : willDo ≡ true → isDue (d .reader .phase) r ≡ false → c ≡ unchanged 1 d
   pub neither : willDo ≡ true → isDue (d .reader .phase) r ≡ true → isMisuse (c .word) ≡ false
 
-module _ (keys : KeyRing) (d : Configuration) where
-  -- for every reader, buffers, ring and call
+module _ (keys : KeyRing) (uri : List ℕ) (d : Configuration) where
+  -- for every reader, buffers, ring, URI and call: the URI will always do
   abbrev pub RefusalsChangeNothing : Request → Type 0
-  RefusalsChangeNothing r = ChangesNothing (loanFits (d .head) (d .block) (d .question) keys r) d r (called keys d r)
+  RefusalsChangeNothing r = ChangesNothing (loanFits (d .head) (d .block) (d .question) keys r) d r (called keys uri d r)
 
   -- It never stands still: a feed of a nonempty piece that is not refused by 1 or 2 takes a byte or more, and no more than there are.
   abbrev pub TakesSome : Type 0
   TakesSome =
       (x : ℕ) (xs : List ℕ) → loanFits (d .head) (d .block) (d .question) keys (feed (x ∷ xs)) ≡ true → isReading (d .reader .phase) ≡ true
-      → Between 1 (length (x ∷ xs)) (feedOf keys d (x ∷ xs) .taken)
+      → Between 1 (length (x ∷ xs)) (feedOf keys uri d (x ∷ xs) .taken)
 
-  -- The ring is read only when the head is judged: after it, any ring that will do gives the same feed.
-  abbrev pub RingNotRead : Type 0
-  RingNotRead =
-      (keys′ : KeyRing) (piece : List ℕ) → isInHead (d .reader .phase) ≡ false
-      → leb (keys .count) ringLimit ≡ true → leb (keys′ .count) ringLimit ≡ true → feedOf keys d piece ≡ feedOf keys′ d piece
+  -- The ring and the URI are read only when the head is judged: after it, any ring that will do, with any URI, gives the same feed.
+  abbrev pub TermsNotRead : Type 0
+  TermsNotRead =
+      (keys′ : KeyRing) (uri′ piece : List ℕ) → isInHead (d .reader .phase) ≡ false
+      → leb (keys .count) ringLimit ≡ true → leb (keys′ .count) ringLimit ≡ true → feedOf keys uri d piece ≡ feedOf keys′ uri′ d piece
 
   -- A signature comes with a question alone: with any other word go 64 zeros.
   abbrev pub OnlyQuestionsSigned : Type 0
-  OnlyQuestionsSigned = (r : Request) → isQuestion (called keys d r .word) ≡ false → called keys d r .signature ≡ noSignature
+  OnlyQuestionsSigned = (r : Request) → isQuestion (called keys uri d r .word) ≡ false → called keys uri d r .signature ≡ noSignature
 
 -- WITH THE RING AS A LENT TABLE, of any number of records: the same; over 16 of them will not do for a feed, and it is refused with 2.
-abbrev pub LentRefusalsChangeNothing : List KeyRecord → Configuration → Request → Type 0
-LentRefusalsChangeNothing records d r = ChangesNothing (lentFits (d .head) (d .block) (d .question) records r) d r (lentCalled records d r)
+abbrev pub LentRefusalsChangeNothing : List KeyRecord → List ℕ → Configuration → Request → Type 0
+LentRefusalsChangeNothing records uri d r = ChangesNothing (lentFits (d .head) (d .block) (d .question) records r) d r (lentCalled records uri d r)
 
 abbrev pub SeventeenRefused : Type 0
 SeventeenRefused =
-    (records : List KeyRecord) (d : Configuration) (piece : List ℕ) → ringLimit < length records → lentCalled records d (feed piece) ≡ unchanged 2 d
+    (records : List KeyRecord) (uri : List ℕ) (d : Configuration) (piece : List ℕ) → ringLimit < length records
+    → lentCalled records uri d (feed piece) ≡ unchanged 2 d
 
 -- Too short a buffer hands out nothing, whatever the reader.
 abbrev pub ShortBlock : Type 0

@@ -10,7 +10,7 @@ use mathlib.Core.List.{List, _++_}
 use mathlib.Core.Logic.{_↔_}
 use Prim.Native.Nat.{ℕ, suc}
 use lib.ListN.{length, replicate}
-use Rattle.ring.specs.Keys.{ringOf}
+use Rattle.ring.specs.Keys.{ringOf, termsOf}
 use Rattle.ring.specs.declared.KeyRing.{KeyRing}
 use Rattle.sections.specs.Reading.{message}
 use Rattle.sections.specs.Resuming.{events}
@@ -24,24 +24,24 @@ use Rattle.exactness.specs.Telling.{Stands}
 use Rattle.claims.specs.Body.{bodyTold}
 use Rattle.claims.specs.Runs.{words, taken, answers}
 
-module _ (keys : KeyRing) (h b q : List ℕ) (ks : List Invocation) where
+module _ (keys : KeyRing) (uri h b q : List ℕ) (ks : List Invocation) where
   -- EXACTLY THEN: a run shows a block, at an offset of the body and with its bytes as they are handed out, at a place of the stream,
   -- exactly when the bytes that it took begin as the rules ask up to that place, with this block as the last, and the answers that
   -- it heard, up to and with the one about this block, are all yes.
   abbrev pub BlockComesOut : Type 0
   BlockComesOut =
       (at o : ℕ) (bytes : List ℕ)
-      → Stands (at, message (told (block o bytes))) (events (words keys h b q ks))
-      ↔ ReleasesBlock (ringOf keys) (taken keys h b q ks) (answers keys h b q ks) at o bytes
+      → Stands (at, message (told (block o bytes))) (events (words keys uri h b q ks))
+      ↔ ReleasesBlock (termsOf keys uri) (taken keys uri h b q ks) (answers keys uri h b q ks) at o bytes
 
   -- AN HONEST SHOW, however its stream is cut, once it is taken and each question was answered with yes: the events are those computed
   -- from the show, up to closed, and the blocks handed out, joined, are its body.
   pub record ComesOutWhole (s : WholeShow) : Type 0 where
-    pub all-events : events (words keys h b q ks) ≡ toldLog (showEvents (ringOf keys) s)
-    pub whole-body : bodyTold (events (words keys h b q ks)) ≡ bodyOf (s .chunks)
+    pub all-events : events (words keys uri h b q ks) ≡ toldLog (showEvents (ringOf keys) s)
+    pub whole-body : bodyTold (events (words keys uri h b q ks)) ≡ bodyOf (s .chunks)
 
   abbrev pub HonestComesOut : Type 0
   HonestComesOut =
-      (s : WholeShow) (more : List Bool) → Honest (ringOf keys) s
-      → taken keys h b q ks ≡ streamOf s → answers keys h b q ks ≡ replicate (suc (length (s .chunks))) true ++ more
+      (s : WholeShow) (more : List Bool) → Honest (termsOf keys uri) s
+      → taken keys uri h b q ks ≡ streamOf s → answers keys uri h b q ks ≡ replicate (suc (length (s .chunks))) true ++ more
       → ComesOutWhole s

@@ -1,6 +1,6 @@
 -- THAT THE CLAIMS SPEAK OF SOMETHING: what they assume is met, here by an example of each. (Every honest show meets what is assumed of runs,
 -- by Reached; document 000's example is one, crate exactness, `example-honest`. Its reading by the older rules is as Kept assumes, crate kept,
--- `example-never`.) Assumes nothing.
+-- `example-never` and `example-uri`; another URI is refused, `example-refused`.) Assumes nothing.
 use mathlib.Core.Path.{_≡_}
 use mathlib.Core.Bool.{Bool, true}
 use mathlib.Core.List.{List}
@@ -23,6 +23,6 @@ LoansWillDo =
 -- what TwoCuttings assumes of two runs: any two cuttings of any stream by the ordinary caller, with answers enough, are such runs
 abbrev pub CallersCuttings : Type 0
 CallersCuttings =
-    (keys : KeyRing) (h b q : List ℕ) → haveRoom h b q ≡ true → leb (keys .count) ringLimit ≡ true
+    (keys : KeyRing) (uri h b q : List ℕ) → haveRoom h b q ≡ true → leb (keys .count) ringLimit ≡ true
     → (given : List Bool) (stream lengths lengths′ : List ℕ) → length stream ≤ length given
-    → events (words keys h b q (ordinaryCalls keys h b q lengths given stream)) ≡ events (words keys h b q (ordinaryCalls keys h b q lengths′ given stream))
+    → events (words keys uri h b q (ordinaryCalls keys uri h b q lengths given stream)) ≡ events (words keys uri h b q (ordinaryCalls keys uri h b q lengths′ given stream))

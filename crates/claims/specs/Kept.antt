@@ -2,22 +2,33 @@
 use mathlib.Core.List.{List}
 use mathlib.Core.Path.{_≡_}
 use Prim.Native.Nat.{ℕ}
-use Rattle.ring.specs.Keys.{ringOf}
+use Rattle.ring.specs.Keys.{ringOf, termsOf}
 use Rattle.ring.specs.declared.KeyRing.{KeyRing}
 use Rattle.sections.specs.Reading.{Log}
 use Rattle.sections.specs.Resuming.{events}
 use Rattle.stream.specs.Events.{Question, Release, LastWord}
 use Rattle.agreement.specs.Plain.{toldLog}
 use Rattle.agreement.specs.Run.{Invocation}
-use Rattle.kept.specs.Kept.{NeverRefused}
+use Rattle.exactness.specs.AskedFor.{uriOf}
+use Rattle.kept.specs.Kept.{NeverRefused, asAnotherShow}
 use Rattle.kept.specs.Older.{olderReading}
+use Rattle.kept.specs.Unasked.{unaskedReading}
 use Rattle.claims.specs.Runs.{words, taken, answers, ended}
 
-module _ (keys : KeyRing) (h b q : List ℕ) (ks : List Invocation) where
+module _ (keys : KeyRing) (uri h b q : List ℕ) (ks : List Invocation) where
   -- of the bytes that were taken, by the rules before request #102: every doubled name was refused with 3
   abbrev pub readBefore : Log Question Release LastWord
-  readBefore = olderReading (ringOf keys) (taken keys h b q ks) (answers keys h b q ks) (ended keys h b q ks)
+  readBefore = olderReading (termsOf keys uri) (taken keys uri h b q ks) (answers keys uri h b q ks) (ended keys uri h b q ks)
 
-  -- Where that reading knows no refusal 3, the events are its events, each at its place and with what it hands out.
+  -- and by the rules before request #105: whatever show came was read, so that they ask for no URI
+  abbrev pub readUnasked : Log Question Release LastWord
+  readUnasked = unaskedReading (ringOf keys) (taken keys uri h b q ks) (answers keys uri h b q ks) (ended keys uri h b q ks)
+
   pub record KeptFromBefore : Type 0 where
-    pub same-events : NeverRefused 3 readBefore → events (words keys h b q ks) ≡ toldLog readBefore
+    -- #102: where that reading knows no refusal 3, the events are its events, each at its place and with what it hands out
+    pub same-events : NeverRefused 3 readBefore → events (words keys uri h b q ks) ≡ toldLog readBefore
+    -- #105: where the head's URI is the asked one, nothing changes
+    pub same-where-asked : uriOf (taken keys uri h b q ks) ≡ uri → events (words keys uri h b q ks) ≡ toldLog readUnasked
+    -- and where it is another, a head that was asked about, or was refused with 12, is refused with 16 at the same byte, and nothing follows; what
+    -- was refused with 3, 4 or 5, or did not come to its end, is told of as before
+    pub refused-where-not : (uriOf (taken keys uri h b q ks) ≡ uri → ⊥) → events (words keys uri h b q ks) ≡ toldLog (asAnotherShow readUnasked)

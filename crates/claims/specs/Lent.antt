@@ -2,11 +2,10 @@
 -- Assumes nothing.
 use mathlib.Core.Path.{_≡_}
 use mathlib.Core.Bool.{Bool, true, false, _&&_}
-use mathlib.Core.List.{List, [], _∷_, map}
+use mathlib.Core.List.{List, [], _∷_}
 use Prim.Native.Nat.{ℕ, _≤_}
 use lib.Dec.{leb}
 use lib.ListN.{length}
-use Rattle.ring.specs.Keys.{trustedOf}
 use Rattle.ring.specs.declared.KeyRecord.{KeyRecord}
 use Rattle.sections.specs.Calls.{Request, feed, answer, end}
 use Rattle.sections.specs.Calls as S
@@ -14,7 +13,7 @@ use Rattle.sections.specs.Resuming.{Resumes, events, bytesTaken, answersHeard, 
 use Rattle.stream.specs.Events.{Question, LastWord}
 use Rattle.stream.specs.Limits.{ringLimit}
 use Rattle.stream.specs.Stream.{plainReading}
-use Rattle.lent.specs.Table.{lentFeedOf, keysOf}
+use Rattle.lent.specs.Table.{lentTerms, lentFeedOf, keysOf}
 use Rattle.state.specs.Configuration.{Configuration, configuration, freshReader}
 use Rattle.calls.specs.Response as R
 use Rattle.calls.specs.Answer.{answerOf, endOf}
@@ -35,35 +34,35 @@ lentFits h b q records r = haveRoom h b q && tableFits records r
 -- as in the run with the ring by value: a call that is refused with 2 may be lent anything
 pub data LentCall : Type 0 where
   same : Request → LentCall
-  other : (h b q : List ℕ) (records : List KeyRecord) (r : Request) → lentFits h b q records r ≡ false → LentCall
+  other : (h b q : List ℕ) (records : List KeyRecord) (uri : List ℕ) (r : Request) → lentFits h b q records r ≡ false → LentCall
 
-abbrev pub lentCalled : List KeyRecord → Configuration → Request → R.Response
-lentCalled records d (feed piece) = lentFeedOf records d piece
-lentCalled records d (answer good) = answerOf d good
-lentCalled records d end = endOf d
+abbrev pub lentCalled : List KeyRecord → List ℕ → Configuration → Request → R.Response
+lentCalled records uri d (feed piece) = lentFeedOf records uri d piece
+lentCalled records uri d (answer good) = answerOf d good
+lentCalled records uri d end = endOf d
 
-abbrev pub lentAside : List KeyRecord → Configuration → Configuration → Request → R.Response
-lentAside records d lent r =
-    let c = lentCalled records lent r in
+abbrev pub lentAside : List KeyRecord → List ℕ → Configuration → Configuration → Request → R.Response
+lentAside records uri d lent r =
+    let c = lentCalled records uri lent r in
     R.response (c .word) (c .taken) (c .signature) (configuration (c .after .reader) (d .head) (d .block) (d .question))
 
-unfoldable pub lentRunCall : List KeyRecord → Configuration → LentCall → R.Response
-lentRunCall records d (same r) = lentCalled records d r
-lentRunCall records d (other h b q records′ r misfit) = lentAside records′ d (configuration (d .reader) h b q) r
+unfoldable pub lentRunCall : List KeyRecord → List ℕ → Configuration → LentCall → R.Response
+lentRunCall records uri d (same r) = lentCalled records uri d r
+lentRunCall records uri d (other h b q records′ uri′ r misfit) = lentAside records′ uri′ d (configuration (d .reader) h b q) r
 
-unfoldable pub lentRunFrom : List KeyRecord → Configuration → List LentCall → Trace
-lentRunFrom records d [] = []
-lentRunFrom records d (k ∷ ks) = observed (lentRunCall records d k) ∷ lentRunFrom records (lentRunCall records d k .after) ks
+unfoldable pub lentRunFrom : List KeyRecord → List ℕ → Configuration → List LentCall → Trace
+lentRunFrom records uri d [] = []
+lentRunFrom records uri d (k ∷ ks) = observed (lentRunCall records uri d k) ∷ lentRunFrom records uri (lentRunCall records uri d k .after) ks
 
 -- a list of calls from a fresh reader, lent buffers of any first content
-unfoldable pub lentRun : List KeyRecord → List ℕ → List ℕ → List ℕ → List LentCall → Trace
-lentRun records h b q ks = lentRunFrom records (configuration freshReader h b q) ks
+unfoldable pub lentRun : List KeyRecord → List ℕ → List ℕ → List ℕ → List ℕ → List LentCall → Trace
+lentRun records uri h b q ks = lentRunFrom records uri (configuration freshReader h b q) ks
 
 -- ---- the same calls, for the plain reading
 
 abbrev pub plainLentCall : List KeyRecord → List ℕ → List ℕ → List ℕ → LentCall → S.Call
 plainLentCall records h b q (same r) = S.call (lentFits h b q records r) r
-plainLentCall records h b q (other h′ b′ q′ records′ r misfit) = S.call false r
+plainLentCall records h b q (other h′ b′ q′ records′ uri′ r misfit) = S.call false r
 
 unfoldable pub plainLentCalls : List KeyRecord → List ℕ → List ℕ → List ℕ → List LentCall → List S.Call
 plainLentCalls records h b q [] = []
@@ -71,10 +70,10 @@ plainLentCalls records h b q (k ∷ ks) = plainLentCall records h b q k ∷ plai
 
 -- ---- THE LENT RING: demand 3, once more, with the records that are lent in place of the ring
 
-module _ (records : List KeyRecord) (h b q : List ℕ) (ks : List LentCall) where
+module _ (records : List KeyRecord) (uri h b q : List ℕ) (ks : List LentCall) where
   -- the words and counts of the calls, the bytes that they took, the answers that they heard, and whether the end was told
   abbrev pub lentWords : List (S.Out Question Told LastWord)
-  lentWords = outs (lentRun records h b q ks)
+  lentWords = outs (lentRun records uri h b q ks)
 
   abbrev pub lentTaken : List ℕ
   lentTaken = bytesTaken (plainLentCalls records h b q ks) lentWords
@@ -86,15 +85,15 @@ module _ (records : List KeyRecord) (h b q : List ℕ) (ks : List LentCall) wher
   lentEnded = endHeard (plainLentCalls records h b q ks) lentWords
 
   pub record LentRing : Type 0 where
-    pub each-call : lentRun records h b q ks ≡ plainTrace (map trustedOf records) (plainLentCalls records h b q ks)
-    pub all-taken : events lentWords ≡ toldLog (plainReading (map trustedOf records) lentTaken lentAnswers lentEnded)
+    pub each-call : lentRun records uri h b q ks ≡ plainTrace (lentTerms records uri) (plainLentCalls records h b q ks)
+    pub all-taken : events lentWords ≡ toldLog (plainReading (lentTerms records uri) lentTaken lentAnswers lentEnded)
     pub whole-stream : (S : List ℕ) → Resumes S (plainLentCalls records h b q ks) lentWords
-        → Tracks (events lentWords) (toldLog (plainReading (map trustedOf records) S lentAnswers true))
+        → Tracks (events lentWords) (toldLog (plainReading (lentTerms records uri) S lentAnswers true))
 
 -- Demand 3 for it, with at most 16 records; with more, every feed is refused with 2 (Demand1).
 abbrev pub HoldsForLentRing : Type 0
-HoldsForLentRing = (records : List KeyRecord) (h b q : List ℕ) (ks : List LentCall) → length records ≤ ringLimit → LentRing records h b q ks
+HoldsForLentRing = (records : List KeyRecord) (uri h b q : List ℕ) (ks : List LentCall) → length records ≤ ringLimit → LentRing records uri h b q ks
 
 -- and for every configuration, a forged one too: such a call gives and leaves what the call with the ring by value does
 abbrev pub SameByValue : Type 0
-SameByValue = (records : List KeyRecord) (d : Configuration) (r : Request) → lentCalled records d r ≡ called (keysOf records) d r
+SameByValue = (records : List KeyRecord) (uri : List ℕ) (d : Configuration) (r : Request) → lentCalled records uri d r ≡ called (keysOf records) uri d r

@@ -8,6 +8,7 @@ pub mod Demand2
 pub mod Demand3
 pub mod Refused
 pub mod Numbers
+pub mod AskedFor
 pub mod SignedValues
 pub mod Handed
 pub mod Reached

@@ -17,9 +17,9 @@ allSame [] = []
 allSame (r ∷ rs) = same r ∷ allSame rs
 
 -- a call of the reader: the word and the count that the caller sees, and the reader with its buffers after it
-abbrev pub returned : KeyRing → Configuration → Request → Out Question Told LastWord × Configuration
-returned keys d r = (observed (called keys d r) .out, called keys d r .after)
+abbrev pub returned : KeyRing → List ℕ → Configuration → Request → Out Question Told LastWord × Configuration
+returned keys uri d r = (observed (called keys uri d r) .out, called keys uri d r .after)
 
--- the caller's calls from a fresh reader, with the same buffers and ring throughout
-abbrev pub ordinaryCalls : KeyRing → (h b q : List ℕ) → List ℕ → List Bool → List ℕ → List Invocation
-ordinaryCalls keys h b q lengths given stream = allSame (requestsOver (returned keys) (configuration freshReader h b q) lengths given stream)
+-- the caller's calls from a fresh reader, with the same buffers, ring and URI throughout
+abbrev pub ordinaryCalls : KeyRing → (uri h b q : List ℕ) → List ℕ → List Bool → List ℕ → List Invocation
+ordinaryCalls keys uri h b q lengths given stream = allSame (requestsOver (returned keys uri) (configuration freshReader h b q) lengths given stream)

@@ -4,7 +4,7 @@
 use mathlib.Core.List.{List}
 use mathlib.Core.Logic.{_↔_}
 use Prim.Native.Nat.{ℕ}
-use Rattle.ring.specs.Keys.{ringOf}
+use Rattle.ring.specs.Keys.{termsOf}
 use Rattle.ring.specs.declared.KeyRing.{KeyRing}
 use Rattle.sections.specs.Reading.{last}
 use Rattle.sections.specs.Resuming.{events}
@@ -13,10 +13,10 @@ use Rattle.agreement.specs.Run.{Invocation}
 use Rattle.exactness.specs.Telling.{Expected, Stands}
 use Rattle.claims.specs.Runs.{words, taken, answers, ended}
 
-module _ (keys : KeyRing) (h b q : List ℕ) (ks : List Invocation) where
+module _ (keys : KeyRing) (uri h b q : List ℕ) (ks : List Invocation) where
   -- at a place of the stream the run is refused with n, and told that the section's text went wrong at `wrong`
   abbrev pub RefusedExactly : Type 0
   RefusedExactly =
       (at n wrong : ℕ)
-      → Stands (at, last (refused n wrong)) (events (words keys h b q ks))
-      ↔ Expected (ringOf keys) (taken keys h b q ks) (answers keys h b q ks) (ended keys h b q ks) at (last (refused n wrong))
+      → Stands (at, last (refused n wrong)) (events (words keys uri h b q ks))
+      ↔ Expected (termsOf keys uri) (taken keys uri h b q ks) (answers keys uri h b q ks) (ended keys uri h b q ks) at (last (refused n wrong))

@@ -10,9 +10,9 @@ use Rattle.stream.specs.Events.{Question, LastWord}
 use Rattle.agreement.specs.Observation.{Told, outs}
 use Rattle.agreement.specs.Run.{Invocation, run, plainCalls}
 
-module _ (keys : KeyRing) (h b q : List ℕ) (ks : List Invocation) where
+module _ (keys : KeyRing) (uri h b q : List ℕ) (ks : List Invocation) where
   abbrev pub words : List (Out Question Told LastWord)
-  words = outs (run keys h b q ks)
+  words = outs (run keys uri h b q ks)
 
   abbrev pub taken : List ℕ
   taken = bytesTaken (plainCalls keys h b q ks) words

@@ -2,35 +2,15 @@
 -- goes": "for fields in the signed list only; for another name, .. the part is empty"). Assumes nothing.
 use mathlib.Core.Path.{_≡_}
 use mathlib.Core.Bool.{Bool, true, false}
-use mathlib.Core.List.{List, [], _∷_, _++_}
+use mathlib.Core.List.{List, [], _∷_}
 use Prim.Native.Nat.{ℕ}
 use lib.ListN.{length}
 use Rattle.stream.specs.Fields.{among, valuesOf}
 use Rattle.stream.specs.Head.{Head, listedNames, signingString}
 use Rattle.stream.specs.Signatures.{listedFields}
 use Rattle.stream.specs.Signing.{joinedValues, signingLine}
+use Rattle.exactness.specs.MessageLines.{LineIn}
 use Rattle.agreement.specs.Observation.{Values}
-
--- ---- a line of a text: "a line feed between, none after the last"
-
--- what comes before a line: nothing, or what ends in a line feed
-pub data BeforeLine : List ℕ → Type 0 where
-  first : BeforeLine []
-  after-line-feed : (l : List ℕ) → BeforeLine (l ++ 10 ∷ [])
-
--- what comes after it: nothing, or what begins with one
-pub data AfterLine : List ℕ → Type 0 where
-  final : AfterLine []
-  before-line-feed : (l : List ℕ) → AfterLine (10 ∷ l)
-
-pub record LineIn (line text : List ℕ) : Type 0 where
-  pub before : List ℕ
-  pub after : List ℕ
-  pub starts : BeforeLine before
-  pub ends : AfterLine after
-  pub joined : before ++ (line ++ after) ≡ text
-
--- ---- values
 
 -- The values of the fields of that name, "compared without case": the one that is handed out is the first, the count is of all, and all of
 -- them, "in order, with a comma and a space", are the value in the head's message.

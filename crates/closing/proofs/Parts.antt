@@ -4,7 +4,7 @@ use mathlib.Core.Path.{_≡_, refl, ap, _∙_}
 use mathlib.Core.Bool.{true}
 use Prim.Native.Nat.{ℕ}
 use Rattle.stream.specs.Blocks.{sizeText, isChunkLine, lineSignature}
-use Rattle.stream.specs.Ring.{Ring}
+use Rattle.stream.specs.Terms.{Terms}
 use Rattle.exactness.specs.Beginning.{Beginning, opening, onward}
 use Rattle.exactness.specs.Good.{Good, opens, goes-on}
 use Rattle.exactness.specs.Shows.{Chunk, chunkLine, signed, nextDigits, continued}
@@ -28,17 +28,17 @@ abbrev again : Beginning → Beginning
 again w = continued (opening (headText w) (chunkLine (nextDigits (chunksIn w) (sizeText (lastLine w))) [])) (chunksIn w) (sizeText (lastLine w))
 
 -- each line of a good beginning is a chunk line
-pub last-good : (ring : Ring) (w : Beginning) → Good ring w → isChunkLine (lastLine w) ≡ true
+pub last-good : (terms : Terms) (w : Beginning) → Good terms w → isChunkLine (lastLine w) ≡ true
 unfolding lastLine
-last-good ring w (opens h l) = l .line .text
-last-good ring w (goes-on g a n) = n .line .text
+last-good terms w (opens h l) = l .line .text
+last-good terms w (goes-on g a n) = n .line .text
 
-pub parts-again : (ring : Ring) (w : Beginning) → Good ring w → again w ≡ w
+pub parts-again : (terms : Terms) (w : Beginning) → Good terms w → again w ≡ w
 unfolding headText lastLine chunksIn continued
-parts-again ring w (opens {h = h} {l = l} g k) = ap (opening h) (bare-again l (k .line .text) (k .unsigned))
-parts-again ring w (goes-on {w = v} {b = b} {l = l} g a n) =
+parts-again terms w (opens {h = h} {l = l} g k) = ap (opening h) (bare-again l (k .line .text) (k .unsigned))
+parts-again terms w (goes-on {w = v} {b = b} {l = l} g a n) =
     let c : Chunk = chunkBetween (lastLine v) b l in
     rw (next-more (chunksIn v) c (sizeText l))
     (continued-more (opening (headText v) (chunkLine (nextDigits (chunksIn v) (sizeText (lastLine v))) [])) (chunksIn v) c (sizeText l)
-    ∙ ap (λ (k : Beginning). onward k b (chunkLine (sizeText l) (signed (lineSignature l)))) (parts-again ring v g)
+    ∙ ap (λ (k : Beginning). onward k b (chunkLine (sizeText l) (signed (lineSignature l)))) (parts-again terms v g)
     ∙ ap (onward v b) (signed-again l (n .line .text) (n .signed)))

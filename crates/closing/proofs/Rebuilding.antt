@@ -8,7 +8,7 @@ use Rattle.stream.specs.Blocks.{sizeText, chunkSize}
 use Rattle.stream.specs.Head.{headOf}
 use Rattle.stream.specs.Limits.{bodyLimit}
 use Rattle.stream.specs.Numbers.{hexValue}
-use Rattle.stream.specs.Ring.{Ring}
+use Rattle.stream.specs.Terms.{Terms}
 use Rattle.exactness.specs.Beginning.{Beginning, opening, onward, written, headIn, size, announces, body}
 use Rattle.exactness.specs.Good.{GoodHead, Good, opens, goes-on, GoodTrailer}
 use Rattle.exactness.specs.Shows.{Chunk, WholeShow, bodyOf, Writes, HonestChunk, HonestChunks, Sized, beginningOf}
@@ -18,15 +18,15 @@ use Rattle.closing.specs.Rebuilt.{headText, lastLine, chunkBetween, chun
 use Rattle.closing.proofs.Lines.{signature-bytes, signature-length, size-well}
 use Rattle.closing.proofs.Parts.{last-good, parts-again}
 
-head-good : (ring : Ring) (w : Beginning) → Good ring w → GoodHead ring (headText w) × (headIn w ≡ headOf (headText w))
+head-good : (terms : Terms) (w : Beginning) → Good terms w → GoodHead terms (headText w) × (headIn w ≡ headOf (headText w))
 unfolding headText headIn
-head-good ring w (opens h l) = (h, refl)
-head-good ring w (goes-on {w = v} g a n) = head-good ring v g
+head-good terms w (opens h l) = (h, refl)
+head-good terms w (goes-on {w = v} g a n) = head-good terms v g
 
 -- the size in its last line
-last-writes : (ring : Ring) (w : Beginning) → Good ring w → Writes (sizeText (lastLine w)) (announces w)
+last-writes : (terms : Terms) (w : Beginning) → Good terms w → Writes (sizeText (lastLine w)) (announces w)
 unfolding lastLine announces chunkSize
-last-writes ring w g = record { text = size-well (lastLine w) (last-good ring w g); value = value w }
+last-writes terms w g = record { text = size-well (lastLine w) (last-good terms w g); value = value w }
   where
     value : (w : Beginning) → hexValue (sizeText (lastLine w)) ≡ announces w
     value (opening h l) = refl
@@ -36,12 +36,12 @@ honest-more : (cs : List Chunk) (c : Chunk) → HonestChunks cs → HonestChunk 
 honest-more [] c h k = (k, tt)
 honest-more (d ∷ cs) c h k = (h .0, honest-more cs c (h .1) k)
 
-chunks-honest : (ring : Ring) (w : Beginning) → Good ring w → HonestChunks (chunksIn w)
+chunks-honest : (terms : Terms) (w : Beginning) → Good terms w → HonestChunks (chunksIn w)
 unfolding chunksIn
-chunks-honest ring w (opens h l) = tt
-chunks-honest ring w (goes-on {w = v} {b = b} {l = l} g a n) =
-    honest-more (chunksIn v) (chunkBetween (lastLine v) b l) (chunks-honest ring v g)
-    (record { some = a .some; size = rw (a .just) (last-writes ring v g); bytes = signature-bytes l; sixty-four = signature-length l })
+chunks-honest terms w (opens h l) = tt
+chunks-honest terms w (goes-on {w = v} {b = b} {l = l} g a n) =
+    honest-more (chunksIn v) (chunkBetween (lastLine v) b l) (chunks-honest terms v g)
+    (record { some = a .some; size = rw (a .just) (last-writes terms v g); bytes = signature-bytes l; sixty-four = signature-length l })
 
 -- every block has N bytes
 abbrev Full : ℕ → List Chunk → Type 0
@@ -64,11 +64,11 @@ record Sizes (w : Beginning) : Type 0 where
   most : announces w ≤ size w
   total : length (body w) ≤ bodyLimit
 
-sizes : (ring : Ring) (w : Beginning) → Good ring w → Sizes w
+sizes : (terms : Terms) (w : Beginning) → Good terms w → Sizes w
 unfolding chunksIn announces headIn body
-sizes ring w (opens h l) = record { sized = tt; full = λ x. tt; most = l .line .most; total = omega arith }
-sizes ring w (goes-on {w = v} {b = b} {l = l} g a n) =
-    let s = sizes ring v g in
+sizes terms w (opens h l) = record { sized = tt; full = λ x. tt; most = l .line .most; total = omega arith }
+sizes terms w (goes-on {w = v} {b = b} {l = l} g a n) =
+    let s = sizes terms v g in
     let c : Chunk = chunkBetween (lastLine v) b l in
     let f = s .full (omega (arith, a .some, a .just)) in
     record {
@@ -79,21 +79,21 @@ sizes ring w (goes-on {w = v} {b = b} {l = l} g a n) =
     }
 
 -- A GOOD BEGINNING that ends in a 0 line, and a good trailer, are the stream of an honest show.
-pub is-show : (ring : Ring) (w : Beginning) (t : List ℕ) → Good ring w → announces w ≡ 0 → GoodTrailer t → IsShowOf ring w t (showFrom w t)
-is-show ring w t g z k =
+pub is-show : (terms : Terms) (w : Beginning) (t : List ℕ) → Good terms w → announces w ≡ 0 → GoodTrailer t → IsShowOf terms w t (showFrom w t)
+is-show terms w t g z k =
     let s : WholeShow = showFrom w t in
-    let p : beginningOf s ≡ w = parts-again ring w g in
+    let p : beginningOf s ≡ w = parts-again terms w g in
     let b : bodyOf (s .chunks) ≡ body w = sym (show-body s) ∙ ap body p in
-    let h = head-good ring w g in
-    let m = sizes ring w g in
+    let h = head-good terms w g in
+    let m = sizes terms w g in
     record {
       honest =
           record {
             head = h .0;
-            chunks = chunks-honest ring w g;
+            chunks = chunks-honest terms w g;
             sized = rw (h .1) at (m .sized);
             total = rw b (m .total);
-            zeros = rw z at (last-writes ring w g);
+            zeros = rw z at (last-writes terms w g);
             trailer = k;
           };
       parts = p;

@@ -16,8 +16,8 @@ use Rattle.sections.proofs.Asked.{questionsIn, answers-asked}
 use Rattle.sections.proofs.Histories.{run-took}
 use Rattle.stream.specs.Blocks.{chained}
 use Rattle.stream.specs.Events.{Question, Release, LastWord, closed}
-use Rattle.stream.specs.Ring.{Ring}
 use Rattle.stream.specs.Stream.{head, rules, plainReading}
+use Rattle.stream.specs.Terms.{Terms}
 use Rattle.exactness.specs.ShowEvents.{lineEnd, chunkEvents, showEvents}
 use Rattle.exactness.specs.Shows.{Chunk, WholeShow, chunkLine, streamOf, nextDigits}
 use Rattle.exactness.specs.Telling.{Stands}
@@ -30,28 +30,28 @@ just-front : {A : Type 0} (l m k : List A) → l ++ m ≡ k → length k ≤ len
 just-front l [] k e h = sym e ∙ append-nil l
 just-front l (x ∷ m) k e h = absurd (omega (arith, length-append l (x ∷ m), ap length e))
 
-module _ (ring : Ring) where
+module _ (terms : Terms) where
   -- a question for the head and one for each block
   chunks-asked : (s : WholeShow) (i : ℕ) (before : List ℕ) (at : ℕ) (cs : List Chunk)
-      → questionsIn (chunkEvents ring s i before at cs) ≡ length cs
+      → questionsIn (chunkEvents (terms .ring) s i before at cs) ≡ length cs
   unfolding questionsIn chunkEvents
   chunks-asked s i before at [] = refl
   chunks-asked s i before at (c ∷ cs) = omega (arith, chunks-asked s (suc i) (chained before (c .block)) (lineEnd at c cs (s .zeros)) cs)
 
-  show-asked : (s : WholeShow) → questionsIn (showEvents ring s) ≡ suc (length (s .chunks))
+  show-asked : (s : WholeShow) → questionsIn (showEvents (terms .ring) s) ≡ suc (length (s .chunks))
   unfolding questionsIn showEvents
   show-asked s =
       let at : ℕ = length (s .head) + length (chunkLine (nextDigits (s .chunks) (s .zeros)) []) in
       omega (arith, chunks-asked s 0 [] at (s .chunks))
 
   -- where the reading closes, it is that of the show
-  show-read : (S : List ℕ) (answers : List Bool) (told : Bool) (at total : ℕ) (c : ClosesAt ring S answers at total)
-      → plainReading ring S answers told ≡ showEvents ring (c .show)
-  show-read S answers told at total c = rw (← c .stream, ← c .granted) (show-complete ring (c .show) (c .rest) (c .others) told (c .honest))
+  show-read : (S : List ℕ) (answers : List Bool) (told : Bool) (at total : ℕ) (c : ClosesAt terms S answers at total)
+      → plainReading terms S answers told ≡ showEvents (terms .ring) (c .show)
+  show-read S answers told at total c = rw (← c .stream, ← c .granted) (show-complete terms (c .show) (c .rest) (c .others) told (c .honest))
 
   -- where there are no further bytes and answers
-  just-show : (taken : List ℕ) (answers : List Bool) (at total : ℕ) (c : ClosesAt ring taken answers at total)
-      → length taken ≡ at → length answers ≤ suc (length (c .show .chunks)) → TakesShow ring taken answers at total
+  just-show : (taken : List ℕ) (answers : List Bool) (at total : ℕ) (c : ClosesAt terms taken answers at total)
+      → length taken ≡ at → length answers ≤ suc (length (c .show .chunks)) → TakesShow terms taken answers at total
   just-show taken answers at total c p n =
       let yes : List Bool = replicate (suc (length (c .show .chunks))) true in
       record {
@@ -65,7 +65,7 @@ module _ (ring : Ring) where
 
   module _ (ks : List Call) where
     abbrev outs : List (Out Question Release LastWord)
-    outs = runCalls (rules ring) head ks
+    outs = runCalls (rules terms) head ks
 
     abbrev took : List ℕ
     took = bytesTaken ks outs
@@ -73,22 +73,22 @@ module _ (ring : Ring) where
     abbrev heard : List Bool
     heard = answersHeard ks outs
 
-    reads : events outs ≡ plainReading ring took heard (endHeard ks outs)
+    reads : events outs ≡ plainReading terms took heard (endHeard ks outs)
     unfolding plainReading
-    reads = run-took (rules ring) head ks
+    reads = run-took (rules terms) head ks
 
-    closes-takes : (at total : ℕ) → Stands (at, last (closed total)) (events outs) → TakesShow ring took heard at total
+    closes-takes : (at total : ℕ) → Stands (at, last (closed total)) (events outs) → TakesShow terms took heard at total
     closes-takes at total s =
-        let c = closed-exact ring took heard (endHeard ks outs) at total .0 (rw reads at s) in
+        let c = closed-exact terms took heard (endHeard ks outs) at total .0 (rw reads at s) in
         let q : questionsIn (events outs) ≡ suc (length (c .show .chunks)) =
         ap questionsIn (reads ∙ show-read took heard (endHeard ks outs) at total c) ∙ show-asked (c .show) in
-        just-show took heard at total c (sym (last-place (rules ring) head ks (s .before) (s .after) at (closed total) (s .joined)))
-        (omega (arith, q, answers-asked (rules ring) head ks))
+        just-show took heard at total c (sym (last-place (rules terms) head ks (s .before) (s .after) at (closed total) (s .joined)))
+        (omega (arith, q, answers-asked (rules terms) head ks))
 
-    takes-closes : (at total : ℕ) → TakesShow ring took heard at total → Stands (at, last (closed total)) (events outs)
+    takes-closes : (at total : ℕ) → TakesShow terms took heard at total → Stands (at, last (closed total)) (events outs)
     takes-closes at total t =
         rw reads
-        (closed-exact ring took heard (endHeard ks outs) at total .1
+        (closed-exact terms took heard (endHeard ks outs) at total .1
         (record {
           show = t .show;
           honest = t .honest;
@@ -102,5 +102,5 @@ module _ (ring : Ring) where
 
     -- A RUN CLOSES, however the stream is cut, exactly when all that it took is the stream of an honest show, and the answers that it heard
     -- are just a yes for the head and for each block.
-    pub run-closes : (at total : ℕ) → Stands (at, last (closed total)) (events outs) ↔ TakesShow ring took heard at total
+    pub run-closes : (at total : ℕ) → Stands (at, last (closed total)) (events outs) ↔ TakesShow terms took heard at total
     run-closes at total = (closes-takes at total, takes-closes at total)

@@ -23,21 +23,22 @@ fn feed(
     block: &mut [u8],
     question: &mut [u8],
     ring: KeyRing,
+    uri: &[u8],
     piece: &[u8],
 ) -> Outcome
-    ensures { λ o. ⌜ made o (now (head .exit)) (now (block .exit)) (now (question .exit)) ≡ called ring (configuration r (now (head .entry)) (now (block .entry)) (now (question .entry))) (C.feed (now (piece .entry))) ⌝ }
+    ensures { λ o. ⌜ made o (now (head .exit)) (now (block .exit)) (now (question .exit)) ≡ called ring (now (uri .entry)) (configuration r (now (head .entry)) (now (block .entry)) (now (question .entry))) (C.feed (now (piece .entry))) ⌝ }
 {
-    reader::feed(r, head, block, question, ring, piece)
+    reader::feed(r, head, block, question, ring, uri, piece)
 }
 
 fn answer(r: Reader, head: &mut [u8], block: &mut [u8], question: &mut [u8], good: bool) -> Outcome
-    ensures { λ o. ⌜ ((ring : KeyRing) → made o (now (head .exit)) (now (block .exit)) (now (question .exit)) ≡ called ring (configuration r (now (head .entry)) (now (block .entry)) (now (question .entry))) (C.answer good)) ⌝ }
+    ensures { λ o. ⌜ ((ring : KeyRing) (uri : List ℕ) → made o (now (head .exit)) (now (block .exit)) (now (question .exit)) ≡ called ring uri (configuration r (now (head .entry)) (now (block .entry)) (now (question .entry))) (C.answer good)) ⌝ }
 {
     reader::answer(r, head, block, question, good)
 }
 
 fn end(r: Reader, head: &mut [u8], block: &mut [u8], question: &mut [u8]) -> Outcome
-    ensures { λ o. ⌜ ((ring : KeyRing) → made o (now (head .exit)) (now (block .exit)) (now (question .exit)) ≡ called ring (configuration r (now (head .entry)) (now (block .entry)) (now (question .entry))) C.end) ⌝ }
+    ensures { λ o. ⌜ ((ring : KeyRing) (uri : List ℕ) → made o (now (head .exit)) (now (block .exit)) (now (question .exit)) ≡ called ring uri (configuration r (now (head .entry)) (now (block .entry)) (now (question .entry))) C.end) ⌝ }
 {
     reader::end(r, head, block, question)
 }

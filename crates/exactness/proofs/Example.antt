@@ -11,7 +11,7 @@ use Rattle.sections.specs.Reading.{cut, cutAt}
 use Rattle.sections.proofs.Cuts.{cut-is}
 use Rattle.stream.specs.Bytes.{all, same, lowered, sameName}
 use Rattle.stream.specs.Fields.{among, isDoubled, isProtected, isProtectedDoubled, namesOf, hasField, valueOf}
-use Rattle.stream.specs.Head.{endsHead, isWholeHead, headWith, headOf, statusDigits, injectionTime, blockSize, blockKey, headKey, listedNames, trustedBy, textRules, trustRules, headFault}
+use Rattle.stream.specs.Head.{endsHead, isWholeHead, headWith, headOf, statusDigits, injectionTime, blockSize, blockKey, headKey, listedNames, trustedBy, textRules, callerRules, headFault}
 use Rattle.stream.specs.Limits.{bodyLimit}
 use Rattle.stream.specs.Lines.{endsWith, lines, beforeEmpty, textLines, trimmed, fieldScan, isFieldLine, fieldOf, areFieldLines, fieldsOf, statusScan, isStatusLine, statusOf}
 use Rattle.stream.specs.Numbers.{numberFrom, isDecimal, isHexNumber}
@@ -21,7 +21,7 @@ use Rattle.stream.specs.Signatures.{injectionScan, isInjection, bsigsScan, isBs
 use Rattle.stream.specs.Stream.{plainReading}
 use Rattle.stream.specs.Template.{run, past, startsWith, scan}
 use Rattle.stream.specs.Trailer.{endsTrailer, isWholeTrailer, isTrailer}
-use Rattle.stream.proofs.Example.{ring, exampleHead, exampleBody}
+use Rattle.stream.proofs.Example.{terms, exampleHead, exampleBody}
 use Rattle.exactness.specs.Good.{GoodHead, GoodTrailer}
 use Rattle.exactness.specs.ShowEvents.{showEvents}
 use Rattle.exactness.specs.Shows.{Chunk, WholeShow, bodyOf, chunksWritten, streamOf, Writes, HonestChunk, HonestChunks, Sized, Honest}
@@ -31,8 +31,8 @@ use Rattle.exactness.proofs.Faults.{faultless-head, faultless-trailer}
 
 -- ---- the example's body, after any good head with its size
 
-pub computed-head : (head : List ℕ) → cut isWholeHead head ≡ cutAt head [] → headFault ring head ≡ 0 → GoodHead ring head
-computed-head head c f = faultless-head ring head ((rw c at (cut-is isWholeHead head)) .3) f
+pub computed-head : (head : List ℕ) → cut isWholeHead head ≡ cutAt head [] → headFault terms head ≡ 0 → GoodHead terms head
+computed-head head c f = faultless-head terms head ((rw c at (cut-is isWholeHead head)) .3) f
 
 chunk : List ℕ → List ℕ → Chunk
 chunk digits block = record { block = block; digits = digits; signature = replicate 64 0 }
@@ -81,7 +81,7 @@ chunks-total : length (bodyOf chunks) ≤ bodyLimit
 unfolding chunks chunk bodyOf
 chunks-total = omega arith
 
-pub honest-after : (head : List ℕ) → GoodHead ring head → blockSize (headOf head) ≡ 5 → Honest ring (showAfter head)
+pub honest-after : (head : List ℕ) → GoodHead terms head → blockSize (headOf head) ≡ 5 → Honest terms (showAfter head)
 unfolding showAfter isHexNumber all numberFrom
 honest-after head good five =
     record {
@@ -94,16 +94,16 @@ honest-after head good five =
     }
 
 -- with four yeses it comes out whole
-pub whole-after : (head : List ℕ) → Honest ring (showAfter head)
-    → (told : Bool) → plainReading ring (head ++ exampleBody) (replicate 4 true) told ≡ showEvents ring (showAfter head)
+pub whole-after : (head : List ℕ) → Honest terms (showAfter head)
+    → (told : Bool) → plainReading terms (head ++ exampleBody) (replicate 4 true) told ≡ showEvents (terms .ring) (showAfter head)
 unfolding showAfter chunks
 whole-after head honest told =
-    ap (λ (k : List ℕ). plainReading ring k (replicate 4 true) told) (sym (append-nil (streamOf (showAfter head)) ∙ stream-after head))
-    ∙ show-complete ring (showAfter head) [] [] told honest
+    ap (λ (k : List ℕ). plainReading terms k (replicate 4 true) told) (sym (append-nil (streamOf (showAfter head)) ∙ stream-after head))
+    ∙ show-complete terms (showAfter head) [] [] told honest
 
-pub body-after : (head : List ℕ) → Honest ring (showAfter head) → released (showEvents ring (showAfter head)) ≡ octets "Hello world!"
+pub body-after : (head : List ℕ) → Honest terms (showAfter head) → released (showEvents (terms .ring) (showAfter head)) ≡ octets "Hello world!"
 unfolding showAfter chunks chunk bodyOf
-body-after head honest = show-released ring (showAfter head) honest
+body-after head honest = show-released terms (showAfter head) honest
 
 -- ---- the example's head
 
@@ -111,8 +111,8 @@ head-cut : cut isWholeHead exampleHead ≡ cutAt exampleHead []
 unfolding cut isWholeHead endsHead endsWith same
 head-cut = refl
 
-head-faultless : headFault ring exampleHead ≡ 0
-unfolding isBase64 letterValue holdsThree holdsTwo holdsOne joinedLetters base64Bytes all same lowered sameName among isDoubled isProtected isProtectedDoubled namesOf hasField valueOf endsHead headWith headOf statusDigits injectionTime blockSize blockKey headKey listedNames trustedBy textRules trustRules headFault endsWith lines beforeEmpty textLines trimmed fieldScan isFieldLine fieldOf areFieldLines fieldsOf statusScan isStatusLine statusOf numberFrom isDecimal fits firstFrom found firstBroken injectionScan isInjection bsigsScan isBsigs sig0Scan isSig0 splitNames areFields isNameList run past startsWith scan
+head-faultless : headFault terms exampleHead ≡ 0
+unfolding isBase64 letterValue holdsThree holdsTwo holdsOne joinedLetters base64Bytes all same lowered sameName among isDoubled isProtected isProtectedDoubled namesOf hasField valueOf endsHead headWith headOf statusDigits injectionTime blockSize blockKey headKey listedNames trustedBy textRules callerRules headFault endsWith lines beforeEmpty textLines trimmed fieldScan isFieldLine fieldOf areFieldLines fieldsOf statusScan isStatusLine statusOf numberFrom isDecimal fits firstFrom found firstBroken injectionScan isInjection bsigsScan isBsigs sig0Scan isSig0 splitNames areFields isNameList run past startsWith scan
 head-faultless = refl
 
 size-five : blockSize (headOf exampleHead) ≡ 5
@@ -124,14 +124,14 @@ size-five = refl
 pub example : WholeShow
 example = showAfter exampleHead
 
-pub example-honest : Honest ring example
+pub example-honest : Honest terms example
 unfolding example
 example-honest = honest-after exampleHead (computed-head exampleHead head-cut head-faultless) size-five
 
-pub example-whole : (told : Bool) → plainReading ring (exampleHead ++ exampleBody) (replicate 4 true) told ≡ showEvents ring example
+pub example-whole : (told : Bool) → plainReading terms (exampleHead ++ exampleBody) (replicate 4 true) told ≡ showEvents (terms .ring) example
 unfolding example
 example-whole told = whole-after exampleHead example-honest told
 
-pub example-body : released (showEvents ring example) ≡ octets "Hello world!"
+pub example-body : released (showEvents (terms .ring) example) ≡ octets "Hello world!"
 unfolding example
 example-body = body-after exampleHead example-honest

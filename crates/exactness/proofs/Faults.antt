@@ -9,11 +9,11 @@ use borrow.Author.Tests.{leb-true, le-leb, eqb-true, eq-eqb, not-true}
 use lib.Dec.{eqb, leb}
 use lib.ListN.{length}
 use Rattle.stream.specs.Blocks.{isWholeLine, isChunkLine, carriesSignature, chunkSize, lineRules, lineFault, sameBool}
-use Rattle.stream.specs.Head.{endsHead, isWholeHead, headOf, textRules, trustRules, headFault}
+use Rattle.stream.specs.Head.{endsHead, isWholeHead, headOf, textRules, callerRules, headFault}
 use Rattle.stream.specs.Limits.{headLimit, lineLimit, bodyLimit}
 use Rattle.stream.specs.Lines.{crlf, endsWith}
-use Rattle.stream.specs.Ring.{Ring}
 use Rattle.stream.specs.Rule.{Rule, firstBroken}
+use Rattle.stream.specs.Terms.{Terms}
 use Rattle.stream.specs.Trailer.{endsTrailer, isWholeTrailer, isTrailer}
 use Rattle.sections.proofs.Cuts.{NoneBelow}
 use Rattle.stream.specs.Bytes.{same}
@@ -47,35 +47,35 @@ held-kept (r ∷ rs) k = (k .0, held-kept rs (k .1))
 
 -- ---- the head
 
-head-text : (ring : Ring) (l : List ℕ) → headFault ring l ≡ 0 → Kept (textRules l (headOf l))
-head-text ring l e = kept-left (textRules l (headOf l)) (trustRules ring (headOf l)) (head-rules-hold ring l e)
+head-text : (terms : Terms) (l : List ℕ) → headFault terms l ≡ 0 → Kept (textRules l (headOf l))
+head-text terms l e = kept-left (textRules l (headOf l)) (callerRules terms (headOf l)) (head-rules-hold terms l e)
 
-head-trust : (ring : Ring) (l : List ℕ) → headFault ring l ≡ 0 → Kept (trustRules ring (headOf l))
-head-trust ring l e = held-kept (trustRules ring (headOf l)) (kept-right (textRules l (headOf l)) (trustRules ring (headOf l)) (head-rules-hold ring l e))
+head-caller : (terms : Terms) (l : List ℕ) → headFault terms l ≡ 0 → Kept (callerRules terms (headOf l))
+head-caller terms l e = held-kept (callerRules terms (headOf l)) (kept-right (textRules l (headOf l)) (callerRules terms (headOf l)) (head-rules-hold terms l e))
 
--- a head keeps every rule, of its text and of trust, exactly when no fault is found in it
-pub head-kept : (ring : Ring) (l : List ℕ) → (Kept (textRules l (headOf l)) × Kept (trustRules ring (headOf l))) ↔ (headFault ring l ≡ 0)
+-- a head keeps every rule, of its text and of the caller's terms, exactly when no fault is found in it
+pub head-kept : (terms : Terms) (l : List ℕ) → (Kept (textRules l (headOf l)) × Kept (callerRules terms (headOf l))) ↔ (headFault terms l ≡ 0)
 unfolding headFault
-head-kept ring l = (
-  λ k. kept-unbroken (textRules l (headOf l) ++ trustRules ring (headOf l)) (kept-both (textRules l (headOf l)) _ (k .0) (k .1)),
-  λ e. (head-text ring l e, head-trust ring l e),
+head-kept terms l = (
+  λ k. kept-unbroken (textRules l (headOf l) ++ callerRules terms (headOf l)) (kept-both (textRules l (headOf l)) _ (k .0) (k .1)),
+  λ e. (head-text terms l e, head-caller terms l e),
 )
 
-pub head-faultless : (ring : Ring) (l : List ℕ) → GoodHead ring l → headFault ring l ≡ 0
-head-faultless ring l g = head-kept ring l .0 (g .text, g .trust)
+pub head-faultless : (terms : Terms) (l : List ℕ) → GoodHead terms l → headFault terms l ≡ 0
+head-faultless terms l g = head-kept terms l .0 (g .text, g .caller)
 
 head-ends : (l : List ℕ) → Kept (textRules l (headOf l)) → endsHead l ≡ true
 unfolding textRules
 head-ends l k = k .0
 
-pub faultless-head : (ring : Ring) (l : List ℕ) → NoneBelow isWholeHead l (length l) → headFault ring l ≡ 0 → GoodHead ring l
+pub faultless-head : (terms : Terms) (l : List ℕ) → NoneBelow isWholeHead l (length l) → headFault terms l ≡ 0 → GoodHead terms l
 unfolding isWholeHead endsHead endsWith same
-faultless-head ring l h e =
+faultless-head terms l h e =
     record {
-      ends = none-first endsHead headLimit l refl (head-ends l (head-text ring l e)) h;
+      ends = none-first endsHead headLimit l refl (head-ends l (head-text terms l e)) h;
       short = omega (arith, none-short endsHead headLimit l (omega arith) h);
-      text = head-text ring l e;
-      trust = head-trust ring l e;
+      text = head-text terms l e;
+      caller = head-caller terms l e;
     }
 
 -- ---- a line

@@ -11,8 +11,8 @@ use Rattle.stream.specs.Blocks.{chunkSize}
 use Rattle.stream.specs.Events.{Question, Release, block, LastWord}
 use Rattle.stream.specs.Head.{headOf}
 use Rattle.stream.specs.Lines.{crlf}
-use Rattle.stream.specs.Ring.{Ring}
 use Rattle.stream.specs.Stream.{Show, Past, after, Context, announced, showOf, bodyWith, blockQuestion, rules, plainReading}
+use Rattle.stream.specs.Terms.{Terms}
 use Rattle.exactness.specs.Beginning.{Beginning, onward, written, headIn, size, announces, blocks, body, hash, offset, questions}
 use Rattle.exactness.specs.Good.{Good, opens, goes-on, GoodTrailer}
 use Rattle.exactness.specs.Telling.{headAsks, headTells, blockAsks, logOf, wholeLog}
@@ -23,11 +23,11 @@ use Rattle.exactness.proofs.Steps.{onRest, head-step, first-step, block
 abbrev pub pastOf : Beginning → Past
 pastOf w = record { blocks = blocks w; hash = hash w }
 
-abbrev pub contextOf : Ring → Beginning → Context
-contextOf ring w = announced (showOf ring (headIn w)) (pastOf w) (length (body w)) (announces w)
+abbrev pub contextOf : Terms → Beginning → Context
+contextOf terms w = announced (showOf (terms .ring) (headIn w)) (pastOf w) (length (body w)) (announces w)
 
 -- where a block is to come, its offset is the number of the body's bytes before it
-pub offset-is : {ring : Ring} (w : Beginning) → Good ring w → 1 ≤ announces w → length (body w) ≡ offset w
+pub offset-is : {terms : Terms} (w : Beginning) → Good terms w → 1 ≤ announces w → length (body w) ≡ offset w
 unfolding announces body blocks headIn
 offset-is w (opens g l) s = omega arith
 offset-is w (goes-on {w = v} {b = b} g a n) s =
@@ -46,65 +46,65 @@ one-yes (suc n) answers = ap (λ (l : List Bool). true ∷ l) (one-yes n answers
 
 -- ---- the reading over a good beginning
 
-module _ (ring : Ring) where
+module _ (terms : Terms) where
   -- the block that a good beginning announces, and a good line after it
-  pub onward-step : (w : Beginning) (b l r : List ℕ) (answers : List Bool) (told : Bool) → Good ring (onward w b l)
-      → readingAt (rules ring) (contextOf ring w) (length (written w)) (b ++ (crlf ++ (l ++ r))) answers told
-      ≡ (length (written (onward w b l)), question (blockAsks ring w b l))
-      ∷ answered (rules ring) (granted (block (offset w) b) (contextOf ring (onward w b l))) (length (written (onward w b l))) answers
-      (onRest ring (length (written (onward w b l))) r told)
+  pub onward-step : (w : Beginning) (b l r : List ℕ) (answers : List Bool) (told : Bool) → Good terms (onward w b l)
+      → readingAt (rules terms) (contextOf terms w) (length (written w)) (b ++ (crlf ++ (l ++ r))) answers told
+      ≡ (length (written (onward w b l)), question (blockAsks (terms .ring) w b l))
+      ∷ answered (rules terms) (granted (block (offset w) b) (contextOf terms (onward w b l))) (length (written (onward w b l))) answers
+      (onRest terms (length (written (onward w b l))) r told)
   unfolding headIn announces blocks body hash blockQuestion blockAsks showOf
   onward-step w b l r answers told (goes-on g a n) = by (announces w) refl (a .just)
     where
       s : Show
-      s = showOf ring (headIn w)
+      s = showOf (terms .ring) (headIn w)
 
       k : 1 ≤ announces w → length (body w ++ b) ≡ bodyWith s (pastOf w) b
       k x = length-append (body w) b ∙ ap (λ (o : ℕ). o + length b) (offset-is w g x)
 
       by : (m : ℕ) → announces w ≡ m → length b ≡ m
-          → readingAt (rules ring) (announced s (pastOf w) (length (body w)) m) (length (written w)) (b ++ (crlf ++ (l ++ r))) answers told
+          → readingAt (rules terms) (announced s (pastOf w) (length (body w)) m) (length (written w)) (b ++ (crlf ++ (l ++ r))) answers told
           ≡ (length (written (onward w b l)), question (blockQuestion s (pastOf w) b l))
-          ∷ answered (rules ring) (granted (block (offset w) b) (announced s (after (pastOf w) b) (length (body w ++ b)) (chunkSize l)))
-          (length (written (onward w b l))) answers (onRest ring (length (written (onward w b l))) r told)
+          ∷ answered (rules terms) (granted (block (offset w) b) (announced s (after (pastOf w) b) (length (body w ++ b)) (chunkSize l)))
+          (length (written (onward w b l))) answers (onRest terms (length (written (onward w b l))) r told)
       by zero z f = absurd (omega arith)
       by (suc m) z f =
           rw (k (omega arith), ← place-is w b l)
-          (block-step ring s (pastOf w) (suc m) (length (written w)) b l r answers told (a .some) f (rw (k (omega arith)) at n))
+          (block-step terms s (pastOf w) (suc m) (length (written w)) b l r answers told (a .some) f (rw (k (omega arith)) at n))
 
   -- With a yes to each question of a good beginning the reading gives its events, and then reads what comes after it.
-  pub reading-good : (w : Beginning) (r : List ℕ) (answers : List Bool) (told : Bool) → Good ring w
-      → plainReading ring (written w ++ r) (replicate (questions w) true ++ answers) told
-      ≡ logOf ring w ++ readingAt (rules ring) (contextOf ring w) (length (written w)) r answers told
+  pub reading-good : (w : Beginning) (r : List ℕ) (answers : List Bool) (told : Bool) → Good terms w
+      → plainReading terms (written w ++ r) (replicate (questions w) true ++ answers) told
+      ≡ logOf (terms .ring) w ++ readingAt (rules terms) (contextOf terms w) (length (written w)) r answers told
   unfolding plainReading reading written headIn announces blocks body hash logOf showOf
   reading-good w r answers told (opens {h = h} {l = l} g k) =
       rw (append-assoc h l r, length-append h l)
-      (head-step ring h (l ++ r) (true ∷ answers) told g
-      ∙ ap (λ (x : Log Question Release LastWord). (length h, question (headAsks ring (headOf h))) ∷ (length h, message (headTells (headOf h))) ∷ x)
-      (first-step ring (showOf ring (headOf h)) (length h) l r answers told k))
+      (head-step terms h (l ++ r) (true ∷ answers) told g
+      ∙ ap (λ (x : Log Question Release LastWord). (length h, question (headAsks (terms .ring) (headOf h))) ∷ (length h, message (headTells (headOf h))) ∷ x)
+      (first-step terms (showOf (terms .ring) (headOf h)) (length h) l r answers told k))
   reading-good w r answers told (goes-on {w = v} {b = b} {l = l} g a n) =
       rw (append-assoc (written v) (b ++ (crlf ++ l)) r, append-assoc b (crlf ++ l) r, one-yes (questions v) answers)
       (reading-good v (b ++ (crlf ++ (l ++ r))) (true ∷ answers) told g
-      ∙ ap (λ (x : Log Question Release LastWord). logOf ring v ++ x) (onward-step v b l r (true ∷ answers) told (goes-on g a n))
-      ∙ sym (append-assoc (logOf ring v) _ _))
+      ∙ ap (λ (x : Log Question Release LastWord). logOf (terms .ring) v ++ x) (onward-step v b l r (true ∷ answers) told (goes-on g a n))
+      ∙ sym (append-assoc (logOf (terms .ring) v) _ _))
 
   -- With a yes to each question but the last of a good beginning, the reading gives its events up to that question.
-  pub reading-asked : (w : Beginning) (b l r : List ℕ) (answers : List Bool) (told : Bool) → Good ring (onward w b l)
-      → plainReading ring (written (onward w b l) ++ r) (replicate (questions w) true ++ answers) told
-      ≡ logOf ring w
-      ++ (length (written (onward w b l)), question (blockAsks ring w b l))
-      ∷ answered (rules ring) (granted (block (offset w) b) (contextOf ring (onward w b l))) (length (written (onward w b l))) answers
-      (onRest ring (length (written (onward w b l))) r told)
+  pub reading-asked : (w : Beginning) (b l r : List ℕ) (answers : List Bool) (told : Bool) → Good terms (onward w b l)
+      → plainReading terms (written (onward w b l) ++ r) (replicate (questions w) true ++ answers) told
+      ≡ logOf (terms .ring) w
+      ++ (length (written (onward w b l)), question (blockAsks (terms .ring) w b l))
+      ∷ answered (rules terms) (granted (block (offset w) b) (contextOf terms (onward w b l))) (length (written (onward w b l))) answers
+      (onRest terms (length (written (onward w b l))) r told)
   unfolding written
   reading-asked w b l r answers told (goes-on g a n) =
       rw (append-assoc (written w) (b ++ (crlf ++ l)) r, append-assoc b (crlf ++ l) r)
       (reading-good w (b ++ (crlf ++ (l ++ r))) answers told g
-      ∙ ap (λ (x : Log Question Release LastWord). logOf ring w ++ x) (onward-step w b l r answers told (goes-on g a n)))
+      ∙ ap (λ (x : Log Question Release LastWord). logOf (terms .ring) w ++ x) (onward-step w b l r answers told (goes-on g a n)))
 
   -- Where a good beginning announces no block, and a good trailer follows, the reading closes.
-  pub reading-closed : (w : Beginning) (t r : List ℕ) (answers : List Bool) (told : Bool) → Good ring w → announces w ≡ 0 → GoodTrailer t
-      → plainReading ring (written w ++ t ++ r) (replicate (questions w) true ++ answers) told ≡ wholeLog ring w t
+  pub reading-closed : (w : Beginning) (t r : List ℕ) (answers : List Bool) (told : Bool) → Good terms w → announces w ≡ 0 → GoodTrailer t
+      → plainReading terms (written w ++ t ++ r) (replicate (questions w) true ++ answers) told ≡ wholeLog (terms .ring) w t
   reading-closed w t r answers told g z k =
       rw (append-assoc (written w) t r, length-append (written w) t)
       (reading-good w (t ++ r) answers told g
-      ∙ ap (λ (x : Log Question Release LastWord). logOf ring w ++ x) (rw z (trailer-step ring (length (body w)) (length (written w)) t r answers told k)))
+      ∙ ap (λ (x : Log Question Release LastWord). logOf (terms .ring) w ++ x) (rw z (trailer-step terms (length (body w)) (length (written w)) t r answers told k)))

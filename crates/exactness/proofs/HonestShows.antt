@@ -7,7 +7,7 @@ use lib.ListN.{length, length-append}
 use Rattle.stream.specs.Head.{headOf, blockSize}
 use Rattle.stream.specs.Limits.{bodyLimit}
 use Rattle.stream.specs.Lines.{crlf}
-use Rattle.stream.specs.Ring.{Ring}
+use Rattle.stream.specs.Terms.{Terms}
 use Rattle.exactness.specs.Beginning.{Beginning, opening, onward, written, headIn, size, announces, blocks, body}
 use Rattle.exactness.specs.Good.{GoodLine, GoodNextLine, Good, opens, goes-on}
 use Rattle.exactness.specs.Shows.{Chunk, WholeShow, bodyOf, chunkLine, signed, chunksWritten, streamOf, Writes, HonestChunks, Sized, Honest, nextDigits, continued, beginningOf}
@@ -95,12 +95,12 @@ unfolding bodyOf
 joined-next [] = omega arith
 joined-next (c ∷ cs) = omega (arith, length-append (c .block) (bodyOf cs))
 
-continued-good : (ring : Ring) (w : Beginning) (cs : List Chunk) (zeros : List ℕ) → Good ring w → announces w ≡ nextSize cs
+continued-good : (terms : Terms) (w : Beginning) (cs : List Chunk) (zeros : List ℕ) → Good terms w → announces w ≡ nextSize cs
     → HonestChunks cs → Sized (size w) cs → Writes zeros 0 → length (body w) + length (bodyOf cs) ≤ bodyLimit
-    → Good ring (continued w cs zeros) × (announces (continued w cs zeros) ≡ 0)
+    → Good terms (continued w cs zeros) × (announces (continued w cs zeros) ≡ 0)
 unfolding continued bodyOf headIn announces body
-continued-good ring w [] zeros g a h s z t = (g, a)
-continued-good ring w (c ∷ cs) zeros g a h s z t =
+continued-good terms w [] zeros g a h s z t = (g, a)
+continued-good terms w (c ∷ cs) zeros g a h s z t =
     let v = next-writes cs zeros (h .1) z in
     let m = signature (c .signature) (h .0 .bytes) (h .0 .sixty-four) in
     let k : length (body w ++ c .block) + length (bodyOf cs) ≤ bodyLimit =
@@ -109,15 +109,15 @@ continued-good ring w (c ∷ cs) zeros g a h s z t =
     line-good (size w) (length (body w ++ c .block)) v m (next-most (size w) cs (rest-sized (size w) c cs s)) (omega (arith, joined-next cs)) in
     let n : GoodNextLine (size w) (length (body w ++ c .block)) (c .block) (chunkLine (nextDigits cs zeros) (signed (c .signature))) =
     record { line = l; signed = line-carries v m; full = λ x. full-before (size w) c cs s (rw (line-size v m) at x) } in
-    continued-good ring (onward w (c .block) (chunkLine (nextDigits cs zeros) (signed (c .signature)))) cs zeros
+    continued-good terms (onward w (c .block) (chunkLine (nextDigits cs zeros) (signed (c .signature)))) cs zeros
     (goes-on g (record { some = h .0 .some; just = sym a }) n) (line-size v m) (h .1) (rest-sized (size w) c cs s) z k
 
-pub show-good : (ring : Ring) (s : WholeShow) → Honest ring s → Good ring (beginningOf s) × (announces (beginningOf s) ≡ 0)
+pub show-good : (terms : Terms) (s : WholeShow) → Honest terms s → Good terms (beginningOf s) × (announces (beginningOf s) ≡ 0)
 unfolding headIn announces body
-show-good ring s h =
+show-good terms s h =
     let N : ℕ = blockSize (headOf (s .head)) in
     let v = next-writes (s .chunks) (s .zeros) (h .chunks) (h .zeros) in
     let l : GoodLine N 0 (chunkLine (nextDigits (s .chunks) (s .zeros)) []) =
     line-good N 0 v bare (next-most N (s .chunks) (h .sized)) (omega (arith, joined-next (s .chunks), h .total)) in
-    continued-good ring (opening (s .head) (chunkLine (nextDigits (s .chunks) (s .zeros)) [])) (s .chunks) (s .zeros)
+    continued-good terms (opening (s .head) (chunkLine (nextDigits (s .chunks) (s .zeros)) [])) (s .chunks) (s .zeros)
     (opens (h .head) (record { line = l; unsigned = line-carries v bare })) (line-size v bare) (h .chunks) (h .sized) (h .zeros) (omega (arith, h .total))

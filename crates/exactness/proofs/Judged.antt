@@ -18,8 +18,8 @@ use Rattle.stream.specs.Head.{endsHead, isWholeHead}
 use Rattle.stream.specs.Limits.{headLimit, lineLimit}
 use Rattle.stream.specs.Lines.{crlf, endsWith}
 use Rattle.stream.specs.Places.{dataEndPlace, trailerPlace}
-use Rattle.stream.specs.Ring.{Ring}
 use Rattle.stream.specs.Stream.{Context, nextLine, isWhole, announced, showOf, judgeDataEnd, judgeTrailer, judge}
+use Rattle.stream.specs.Terms.{Terms}
 use Rattle.stream.specs.Trailer.{endsTrailer, isWholeTrailer, isTrailer}
 use Rattle.stream.proofs.Truth.{same-equal, same-self}
 use Rattle.exactness.specs.Beginning.{Beginning, onward, written, headIn, announces, body, questions}
@@ -65,11 +65,11 @@ short-length n f p h = by (leb n (length f)) refl
         let m : length (take (length f) f) ≡ length f = length-take-le (length f) f (omega arith) in
         absurd (omega (arith, leb-false n (length (take (length f) f)) (h (length f) (omega arith) (omega arith))))
 
-module _ (ring : Ring) where
+module _ (terms : Terms) where
   -- ---- a whole section
 
-  end-due : (w : Beginning) (b f : List ℕ) → Good ring w → Announced w b → length f ≡ 2
-      → SaysDue ring (written w ++ b ++ f) (questions w) (judgeDataEnd (showOf ring (headIn w)) (pastOf w) b f)
+  end-due : (w : Beginning) (b f : List ℕ) → Good terms w → Announced w b → length f ≡ 2
+      → SaysDue terms (written w ++ b ++ f) (questions w) (judgeDataEnd (showOf (terms .ring) (headIn w)) (pastOf w) b f)
   unfolding judgeDataEnd
   end-due w b f g a l = by (same f crlf) refl
     where
@@ -77,45 +77,45 @@ module _ (ring : Ring) where
       other h e = true≢false (sym (same-self crlf) ∙ (rw e at h))
 
       by : (t : Bool) → same f crlf ≡ t
-          → SaysDue ring (written w ++ b ++ f) (questions w)
-          (elim t [ true ↦ go (nextLine (showOf ring (headIn w)) (pastOf w) b) | false ↦ stop (refused 6 (dataEndPlace f)) ])
+          → SaysDue terms (written w ++ b ++ f) (questions w)
+          (elim t [ true ↦ go (nextLine (showOf (terms .ring) (headIn w)) (pastOf w) b) | false ↦ stop (refused 6 (dataEndPlace f)) ])
       by true h = rw (same-equal f crlf h) (at-next g a)
       by false h = rule-broken (data-end-refused g a l (other h) (data-end-wrong f))
 
-  trailer-due : (w : Beginning) (f : List ℕ) → Good ring w → announces w ≡ 0 → isWholeTrailer f ≡ true → NoneBelow isWholeTrailer f (length f)
-      → SaysDue ring (written w ++ f) (questions w) (judgeTrailer (length (body w)) f)
+  trailer-due : (w : Beginning) (f : List ℕ) → Good terms w → announces w ≡ 0 → isWholeTrailer f ≡ true → NoneBelow isWholeTrailer f (length f)
+      → SaysDue terms (written w ++ f) (questions w) (judgeTrailer (length (body w)) f)
   unfolding judgeTrailer isWholeTrailer endsTrailer endsWith same
   trailer-due w f g z t n = by (isTrailer f) refl
     where
       by : (x : Bool) → isTrailer f ≡ x
-          → SaysDue ring (written w ++ f) (questions w) (elim x [ true ↦ stop (closed (length (body w))) | false ↦ stop (refused 6 (trailerPlace f)) ])
+          → SaysDue terms (written w ++ f) (questions w) (elim x [ true ↦ stop (closed (length (body w))) | false ↦ stop (refused 6 (trailerPlace f)) ])
       by true h = body-closed g z (faultless-trailer f n h)
       by false h = rule-broken (trailer-refused g z (cut-whole endsTrailer headLimit f refl (omega arith) t n) h (trailer-wrong f))
 
   -- after a line, by the size that it announces
-  line-due : (w : Beginning) (f : List ℕ) → Good ring w → isWhole (contextOf ring w) f ≡ true → NoneBelow (isWhole (contextOf ring w)) f (length f)
-      → SaysDue ring (written w ++ f) (questions w) (judge ring (contextOf ring w) f)
+  line-due : (w : Beginning) (f : List ℕ) → Good terms w → isWhole (contextOf terms w) f ≡ true → NoneBelow (isWhole (contextOf terms w)) f (length f)
+      → SaysDue terms (written w ++ f) (questions w) (judge terms (contextOf terms w) f)
   unfolding isWhole judge
   line-due w f g t n = by (announces w) refl t n
     where
       next : ℕ → Context
-      next m = announced (showOf ring (headIn w)) (pastOf w) (length (body w)) m
+      next m = announced (showOf (terms .ring) (headIn w)) (pastOf w) (length (body w)) m
 
       by : (m : ℕ) → announces w ≡ m → isWhole (next m) f ≡ true → NoneBelow (isWhole (next m)) f (length f)
-          → SaysDue ring (written w ++ f) (questions w) (judge ring (next m) f)
+          → SaysDue terms (written w ++ f) (questions w) (judge terms (next m) f)
       by zero a t n = trailer-due w f g a t n
       by (suc m) a t n =
           let e : length f ≡ suc m = exact-length (suc m) f (omega arith) t n in
           at-end {b = f} g (record { some = omega arith; just = e ∙ sym a })
 
-  pub judge-due : (front : List ℕ) (yeses : ℕ) (c : Context) (f : List ℕ) → Reached ring front yeses c → isWhole c f ≡ true
-      → NoneBelow (isWhole c) f (length f) → SaysDue ring (front ++ f) yeses (judge ring c f)
+  pub judge-due : (front : List ℕ) (yeses : ℕ) (c : Context) (f : List ℕ) → Reached terms front yeses c → isWhole c f ≡ true
+      → NoneBelow (isWhole c) f (length f) → SaysDue terms (front ++ f) yeses (judge terms c f)
   unfolding isWhole judge
-  judge-due front yeses c f at-head t n = head-due ring f t n
-  judge-due front yeses c f (at-first {h = h} g) t n = first-due ring h f g t n
+  judge-due front yeses c f at-head t n = head-due terms f t n
+  judge-due front yeses c f (at-first {h = h} g) t n = first-due terms h f g t n
   judge-due front yeses c f (at-line {w = w} g e) t n = rw e (line-due w f g (rw e at t) (rw e at n))
   judge-due front yeses c f (at-end {w = w} {b = b} g a) t n = end-due w b f g a (exact-length 2 f (omega arith) t n)
-  judge-due front yeses c f (at-next {w = w} {b = b} g a) t n = rw (onward-written w b f) (next-due ring w b f g a t n)
+  judge-due front yeses c f (at-next {w = w} {b = b} g a) t n = rw (onward-written w b f) (next-due terms w b f g a t n)
 
   -- ---- no whole section
 
@@ -123,18 +123,18 @@ module _ (ring : Ring) where
   unfolding isWholeLine endsWith same
   line-open f n = none-unended (endsWith crlf) lineLimit f refl (omega arith) n
 
-  open-line : (w : Beginning) (f : List ℕ) → Good ring w → NoneBelow (isWhole (contextOf ring w)) f (suc (length f))
-      → Unfinished ring (written w ++ f) (questions w)
+  open-line : (w : Beginning) (f : List ℕ) → Good terms w → NoneBelow (isWhole (contextOf terms w)) f (suc (length f))
+      → Unfinished terms (written w ++ f) (questions w)
   unfolding isWhole isWholeTrailer endsTrailer endsWith same
   open-line w f g n = by (announces w) refl n
     where
-      by : (m : ℕ) → announces w ≡ m → NoneBelow (isWhole (announced (showOf ring (headIn w)) (pastOf w) (length (body w)) m)) f (suc (length f))
-          → Unfinished ring (written w ++ f) (questions w)
+      by : (m : ℕ) → announces w ≡ m → NoneBelow (isWhole (announced (showOf (terms .ring) (headIn w)) (pastOf w) (length (body w)) m)) f (suc (length f))
+          → Unfinished terms (written w ++ f) (questions w)
       by zero a n = in-trailer g a (none-unended endsTrailer headLimit f refl (omega arith) n)
       by (suc m) a n = in-block f g (omega (arith, short-length (suc m) f (omega arith) n))
 
-  pub none-unfinished : (front : List ℕ) (yeses : ℕ) (c : Context) (f : List ℕ) → Reached ring front yeses c
-      → NoneBelow (isWhole c) f (suc (length f)) → Unfinished ring (front ++ f) yeses
+  pub none-unfinished : (front : List ℕ) (yeses : ℕ) (c : Context) (f : List ℕ) → Reached terms front yeses c
+      → NoneBelow (isWhole c) f (suc (length f)) → Unfinished terms (front ++ f) yeses
   unfolding isWhole isWholeHead endsHead endsWith same
   none-unfinished front yeses c f at-head n = in-head (none-unended endsHead headLimit f refl (omega arith) n)
   none-unfinished front yeses c f (at-first g) n = in-first-line g (line-open f n)

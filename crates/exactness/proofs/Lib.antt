@@ -20,3 +20,7 @@ pub mod ShowLogs
 pub mod Completeness
 pub mod Example
 pub mod RepeatedExample
+pub mod MessageLines
+pub mod OneValue
+pub mod AskedFor
+pub mod AskedExample

@@ -15,8 +15,8 @@ use Rattle.stream.specs.Head.{endsHead, isWholeHead, headOf, blockSize, headFau
 use Rattle.stream.specs.Limits.{headLimit, lineLimit}
 use Rattle.stream.specs.Lines.{crlf, endsWith}
 use Rattle.stream.specs.Places.{headPlace, linePlace}
-use Rattle.stream.specs.Ring.{Ring}
 use Rattle.stream.specs.Stream.{Context, head, firstLine, dataEnd, nextLine, Says, unlessBroken, announced, showOf, headQuestion, acceptHead, judgeHead, judgeFirstLine, bodyWith, blockQuestion, acceptBlock, judgeNextLine}
+use Rattle.stream.specs.Terms.{Terms}
 use Rattle.exactness.specs.Beginning.{Beginning, opening, onward, written, headIn, size, announces, blocks, body, hash, questions}
 use Rattle.exactness.specs.Good.{GoodHead, Announced, Good, opens, goes-on}
 use Rattle.exactness.specs.Refusals.{Whole, Refuses, head-refused, first-line-refused, next-line-refused}
@@ -27,35 +27,35 @@ use Rattle.exactness.proofs.WentWrong.{head-wrong, line-wrong}
 use Rattle.exactness.proofs.Wholes.{cut-whole}
 
 -- the reading stands in a context, after the bytes `front` and so many yeses
-pub data Reached (ring : Ring) : List ℕ → ℕ → Context → Type 0 where
-  at-head : Reached ring [] 0 head
-  at-first : {h : List ℕ} → GoodHead ring h → Reached ring h 1 (firstLine (showOf ring (headOf h)))
-  at-line : {w : Beginning} {c : Context} → Good ring w → c ≡ contextOf ring w → Reached ring (written w) (questions w) c
-  at-end : {w : Beginning} {b : List ℕ} → Good ring w → Announced w b
-      → Reached ring (written w ++ b) (questions w) (dataEnd (showOf ring (headIn w)) (pastOf w) b)
-  at-next : {w : Beginning} {b : List ℕ} → Good ring w → Announced w b
-      → Reached ring (written w ++ b ++ crlf) (questions w) (nextLine (showOf ring (headIn w)) (pastOf w) b)
+pub data Reached (terms : Terms) : List ℕ → ℕ → Context → Type 0 where
+  at-head : Reached terms [] 0 head
+  at-first : {h : List ℕ} → GoodHead terms h → Reached terms h 1 (firstLine (showOf (terms .ring) (headOf h)))
+  at-line : {w : Beginning} {c : Context} → Good terms w → c ≡ contextOf terms w → Reached terms (written w) (questions w) c
+  at-end : {w : Beginning} {b : List ℕ} → Good terms w → Announced w b
+      → Reached terms (written w ++ b) (questions w) (dataEnd (showOf (terms .ring) (headIn w)) (pastOf w) b)
+  at-next : {w : Beginning} {b : List ℕ} → Good terms w → Announced w b
+      → Reached terms (written w ++ b ++ crlf) (questions w) (nextLine (showOf (terms .ring) (headIn w)) (pastOf w) b)
 
-module _ (ring : Ring) where
+module _ (terms : Terms) where
   -- what is said after the bytes `front` and so many yeses is due there
   abbrev pub SaysDue : List ℕ → ℕ → Says → Type 0
-  SaysDue front yeses (go c) = Reached ring front yeses c
+  SaysDue front yeses (go c) = Reached terms front yeses c
   SaysDue front yeses (tell e c) = ⊥
   SaysDue front yeses (ask q (granted e c)) =
-      Decides ring front yeses (question q) × Decides ring front (suc yeses) (message e) × Reached ring front (suc yeses) c
+      Decides terms front yeses (question q) × Decides terms front (suc yeses) (message e) × Reached terms front (suc yeses) c
   SaysDue front yeses (ask q (final l)) = ⊥
-  SaysDue front yeses (stop l) = Decides ring front yeses (last l)
+  SaysDue front yeses (stop l) = Decides terms front yeses (last l)
 
   unless-due : (front : List ℕ) (yeses n place : ℕ) (says : Says) → (n ≡ 0 → SaysDue front yeses says)
-      → ((k : ℕ) → n ≡ suc k → Refuses ring front yeses (suc k) (placeOf (suc k) place)) → SaysDue front yeses (unlessBroken n place says)
+      → ((k : ℕ) → n ≡ suc k → Refuses terms front yeses (suc k) (placeOf (suc k) place)) → SaysDue front yeses (unlessBroken n place says)
   unless-due front yeses zero place says h r = h refl
   unless-due front yeses (suc n) place says h r = rule-broken (r n refl)
 
-  pub head-due : (f : List ℕ) → isWholeHead f ≡ true → NoneBelow isWholeHead f (length f) → SaysDue f 0 (judgeHead ring f)
+  pub head-due : (f : List ℕ) → isWholeHead f ≡ true → NoneBelow isWholeHead f (length f) → SaysDue f 0 (judgeHead terms f)
   unfolding judgeHead acceptHead headQuestion headAsks headTells isWholeHead endsHead endsWith same headFault
   head-due f t n =
-      unless-due f 0 (headFault ring f) (headPlace f) (acceptHead ring (headOf f))
-      (λ e. let g = faultless-head ring f n e in (head-asked g, head-told g, at-first g))
+      unless-due f 0 (headFault terms f) (headPlace f) (acceptHead (terms .ring) (headOf f))
+      (λ e. let g = faultless-head terms f n e in (head-asked g, head-told g, at-first g))
       (λ k e. head-refused (cut-whole endsHead headLimit f refl (omega arith) t n) e (head-wrong f (suc k)))
 
   -- a line that is cut off
@@ -63,8 +63,8 @@ module _ (ring : Ring) where
   unfolding isWholeLine endsWith same
   line-whole f t n = cut-whole (endsWith crlf) lineLimit f refl (omega arith) t n
 
-  pub first-due : (h f : List ℕ) → GoodHead ring h → isWholeLine f ≡ true → NoneBelow isWholeLine f (length f)
-      → SaysDue (h ++ f) 1 (judgeFirstLine (showOf ring (headOf h)) f)
+  pub first-due : (h f : List ℕ) → GoodHead terms h → isWholeLine f ≡ true → NoneBelow isWholeLine f (length f)
+      → SaysDue (h ++ f) 1 (judgeFirstLine (showOf (terms .ring) (headOf h)) f)
   unfolding judgeFirstLine showOf written blocks headIn announces body hash lineFault
   first-due h f g t n =
       unless-due (h ++ f) 1 (lineFault (blockSize (headOf h)) false true 0 f) (linePlace f) _
@@ -72,17 +72,17 @@ module _ (ring : Ring) where
       (λ k e. first-line-refused g (line-whole f t n) e (line-wrong f (suc k)))
 
   -- the bytes of the body up to and with a block, counted both ways
-  pub body-with : (w : Beginning) (b : List ℕ) → Good ring w → Announced w b → bodyWith (showOf ring (headIn w)) (pastOf w) b ≡ length (body w ++ b)
+  pub body-with : (w : Beginning) (b : List ℕ) → Good terms w → Announced w b → bodyWith (showOf (terms .ring) (headIn w)) (pastOf w) b ≡ length (body w ++ b)
   unfolding showOf
   body-with w b g a = sym (length-append (body w) b ∙ ap (λ (o : ℕ). o + length b) (offset-is w g (omega arith)))
 
-  pub next-due : (w : Beginning) (b f : List ℕ) → Good ring w → Announced w b → isWholeLine f ≡ true → NoneBelow isWholeLine f (length f)
-      → SaysDue (written (onward w b f)) (questions w) (judgeNextLine (showOf ring (headIn w)) (pastOf w) b f)
+  pub next-due : (w : Beginning) (b f : List ℕ) → Good terms w → Announced w b → isWholeLine f ≡ true → NoneBelow isWholeLine f (length f)
+      → SaysDue (written (onward w b f)) (questions w) (judgeNextLine (showOf (terms .ring) (headIn w)) (pastOf w) b f)
   unfolding judgeNextLine acceptBlock blockQuestion showOf blockAsks headIn announces blocks body hash lineFault
   next-due w b f g a t n =
       let k = body-with w b g a in
       unless-due (written (onward w b f)) (questions w) _ _ _
       (λ e.
-      let good : Good ring (onward w b f) = goes-on g a (rw k at (faultless-next (size w) (bodyWith (showOf ring (headIn w)) (pastOf w) b) b f n e)) in
-      (block-asked good, block-told good, at-line good (ap (λ (m : ℕ). announced (showOf ring (headIn w)) (pastOf (onward w b f)) m (chunkSize f)) k)))
+      let good : Good terms (onward w b f) = goes-on g a (rw k at (faultless-next (size w) (bodyWith (showOf (terms .ring) (headIn w)) (pastOf w) b) b f n e)) in
+      (block-asked good, block-told good, at-line good (ap (λ (m : ℕ). announced (showOf (terms .ring) (headIn w)) (pastOf (onward w b f)) m (chunkSize f)) k)))
       (λ m e. next-line-refused g a (line-whole f t n) (rw k at e) (line-wrong f (suc m)))

@@ -7,23 +7,23 @@ use Rattle.sections.specs.Reading.{question, message, last}
 use Rattle.stream.specs.Events.{headAccepted, block}
 use Rattle.stream.specs.Head.{headOf}
 use Rattle.stream.specs.Lines.{Field}
-use Rattle.stream.specs.Ring.{Ring}
+use Rattle.stream.specs.Terms.{Terms}
 use Rattle.exactness.specs.Beginning.{Beginning, onward, written, blocks, offset, questions}
 use Rattle.exactness.specs.Good.{GoodHead, Good}
 use Rattle.exactness.specs.Releases.{AcceptsHead, ReleasesBlock}
 use Rattle.exactness.specs.Telling.{StreamEvent, headTells, Decides, head-asked, head-told, block-asked, block-told, body-closed, rule-broken, Due}
 
-module _ (ring : Ring) where
+module _ (terms : Terms) where
   -- what a release that is decided after `front` and so many yeses comes from
   abbrev Origin : List ℕ → ℕ → StreamEvent → Type 0
   Origin front yeses (question q) = Unit {0}
   Origin front yeses (message (headAccepted status fields)) =
-      GoodHead ring front × (headTells (headOf front) ≡ headAccepted status fields) × (yeses ≡ 1)
+      GoodHead terms front × (headTells (headOf front) ≡ headAccepted status fields) × (yeses ≡ 1)
   Origin front yeses (message (block o b)) =
-      (w : Beginning) × (l : List ℕ) × Good ring (onward w b l) × (written (onward w b l) ≡ front) × (offset w ≡ o) × (yeses ≡ questions (onward w b l))
+      (w : Beginning) × (l : List ℕ) × Good terms (onward w b l) × (written (onward w b l) ≡ front) × (offset w ≡ o) × (yeses ≡ questions (onward w b l))
   Origin front yeses (last l) = Unit {0}
 
-  origin : (front : List ℕ) (yeses : ℕ) (e : StreamEvent) → Decides ring front yeses e → Origin front yeses e
+  origin : (front : List ℕ) (yeses : ℕ) (e : StreamEvent) → Decides terms front yeses e → Origin front yeses e
   unfolding headTells blocks
   origin front yeses e (head-asked g) = tt
   origin front yeses e (head-told g) = (g, refl, refl)
@@ -32,7 +32,7 @@ module _ (ring : Ring) where
   origin front yeses e (body-closed g z k) = tt
   origin front yeses e (rule-broken r) = tt
 
-  pub due-block : (S : List ℕ) (answers : List Bool) (at o : ℕ) (b : List ℕ) → Due ring S answers at (message (block o b)) → ReleasesBlock ring S answers at o b
+  pub due-block : (S : List ℕ) (answers : List Bool) (at o : ℕ) (b : List ℕ) → Due terms S answers at (message (block o b)) → ReleasesBlock terms S answers at o b
   due-block S answers at o b d =
       let (w, l, g, front, where-in-body, yeses) = origin (d .front) (d .yeses) _ (d .decides) in
       record {
@@ -47,7 +47,7 @@ module _ (ring : Ring) where
         granted = rw yeses at (d .granted);
       }
 
-  pub block-due : (S : List ℕ) (answers : List Bool) (at o : ℕ) (b : List ℕ) → ReleasesBlock ring S answers at o b → Due ring S answers at (message (block o b))
+  pub block-due : (S : List ℕ) (answers : List Bool) (at o : ℕ) (b : List ℕ) → ReleasesBlock terms S answers at o b → Due terms S answers at (message (block o b))
   unfolding blocks
   block-due S answers at o b r =
       record {
@@ -61,8 +61,8 @@ module _ (ring : Ring) where
         decides = rw (← r .where-in-body) (block-told (r .good));
       }
 
-  pub due-head : (S : List ℕ) (answers : List Bool) (at status : ℕ) (fields : List Field) → Due ring S answers at (message (headAccepted status fields))
-      → AcceptsHead ring S answers at status fields
+  pub due-head : (S : List ℕ) (answers : List Bool) (at status : ℕ) (fields : List Field) → Due terms S answers at (message (headAccepted status fields))
+      → AcceptsHead terms S answers at status fields
   due-head S answers at status fields d =
       let (g, says, yeses) = origin (d .front) (d .yeses) _ (d .decides) in
       record {
@@ -76,8 +76,8 @@ module _ (ring : Ring) where
         granted = rw yeses at (d .granted);
       }
 
-  pub head-due : (S : List ℕ) (answers : List Bool) (at status : ℕ) (fields : List Field) → AcceptsHead ring S answers at status fields
-      → Due ring S answers at (message (headAccepted status fields))
+  pub head-due : (S : List ℕ) (answers : List Bool) (at status : ℕ) (fields : List Field) → AcceptsHead terms S answers at status fields
+      → Due terms S answers at (message (headAccepted status fields))
   head-due S answers at status fields r =
       record {
         front = r .head;

@@ -8,7 +8,7 @@ use Rattle.base64.specs.Base64.{isBase64, letterValue, holdsThree, holdsTwo, ho
 use Rattle.sections.specs.Reading.{cut, cutAt}
 use Rattle.stream.specs.Bytes.{all, same, lowered, sameName}
 use Rattle.stream.specs.Fields.{among, isDoubled, isProtected, isProtectedDoubled, namesOf, hasField, valueOf}
-use Rattle.stream.specs.Head.{endsHead, isWholeHead, headWith, headOf, statusDigits, injectionTime, blockSize, blockKey, headKey, listedNames, trustedBy, textRules, trustRules, headFault}
+use Rattle.stream.specs.Head.{endsHead, isWholeHead, headWith, headOf, statusDigits, injectionTime, blockSize, blockKey, headKey, listedNames, trustedBy, textRules, callerRules, headFault}
 use Rattle.stream.specs.Lines.{endsWith, lines, beforeEmpty, textLines, trimmed, fieldScan, isFieldLine, fieldOf, areFieldLines, fieldsOf, statusScan, isStatusLine, statusOf}
 use Rattle.stream.specs.Numbers.{numberFrom, isDecimal}
 use Rattle.stream.specs.Ring.{fits, firstFrom, found}
@@ -16,30 +16,30 @@ use Rattle.stream.specs.Rule.{firstBroken}
 use Rattle.stream.specs.Signatures.{injectionScan, isInjection, bsigsScan, isBsigs, sig0Scan, isSig0, splitNames, areFields, isNameList}
 use Rattle.stream.specs.Stream.{plainReading}
 use Rattle.stream.specs.Template.{run, past, startsWith, scan}
-use Rattle.stream.proofs.Example.{ring, exampleBody}
-use Rattle.stream.proofs.RepeatCases.{putAfter, withFields, signing, repeatedHead}
+use Rattle.stream.proofs.Example.{terms, exampleBody}
+use Rattle.stream.proofs.RepeatCases.{withFields, signing, repeatedHead}
 use Rattle.exactness.specs.ShowEvents.{showEvents}
 use Rattle.exactness.specs.Shows.{Honest}
 use Rattle.exactness.specs.Telling.{released}
 use Rattle.exactness.proofs.Example.{computed-head, showAfter, honest-after, whole-after, body-after}
 
 head-cut : cut isWholeHead repeatedHead ≡ cutAt repeatedHead []
-unfolding cut isWholeHead endsHead endsWith same putAfter withFields signing repeatedHead startsWith
+unfolding cut isWholeHead endsHead endsWith same withFields signing repeatedHead startsWith
 head-cut = refl
 
-head-faultless : headFault ring repeatedHead ≡ 0
-unfolding isBase64 letterValue holdsThree holdsTwo holdsOne joinedLetters base64Bytes all same lowered sameName among isDoubled isProtected isProtectedDoubled namesOf hasField valueOf endsHead headWith headOf statusDigits injectionTime blockSize blockKey headKey listedNames trustedBy textRules trustRules headFault endsWith lines beforeEmpty textLines trimmed fieldScan isFieldLine fieldOf areFieldLines fieldsOf statusScan isStatusLine statusOf numberFrom isDecimal fits firstFrom found firstBroken injectionScan isInjection bsigsScan isBsigs sig0Scan isSig0 splitNames areFields isNameList run past startsWith scan putAfter withFields signing repeatedHead
+head-faultless : headFault terms repeatedHead ≡ 0
+unfolding isBase64 letterValue holdsThree holdsTwo holdsOne joinedLetters base64Bytes all same lowered sameName among isDoubled isProtected isProtectedDoubled namesOf hasField valueOf endsHead headWith headOf statusDigits injectionTime blockSize blockKey headKey listedNames trustedBy textRules callerRules headFault endsWith lines beforeEmpty textLines trimmed fieldScan isFieldLine fieldOf areFieldLines fieldsOf statusScan isStatusLine statusOf numberFrom isDecimal fits firstFrom found firstBroken injectionScan isInjection bsigsScan isBsigs sig0Scan isSig0 splitNames areFields isNameList run past startsWith scan withFields signing repeatedHead
 head-faultless = refl
 
 size-five : blockSize (headOf repeatedHead) ≡ 5
-unfolding headWith headOf blockSize numberFrom lines beforeEmpty textLines trimmed fieldScan fieldOf fieldsOf valueOf sameName lowered same bsigsScan injectionScan sig0Scan run past startsWith scan putAfter withFields signing repeatedHead
+unfolding headWith headOf blockSize numberFrom lines beforeEmpty textLines trimmed fieldScan fieldOf fieldsOf valueOf sameName lowered same bsigsScan injectionScan sig0Scan run past startsWith scan withFields signing repeatedHead
 size-five = refl
 
-pub repeated-honest : Honest ring (showAfter repeatedHead)
+pub repeated-honest : Honest terms (showAfter repeatedHead)
 repeated-honest = honest-after repeatedHead (computed-head repeatedHead head-cut head-faultless) size-five
 
-pub repeated-whole : (told : Bool) → plainReading ring (repeatedHead ++ exampleBody) (replicate 4 true) told ≡ showEvents ring (showAfter repeatedHead)
+pub repeated-whole : (told : Bool) → plainReading terms (repeatedHead ++ exampleBody) (replicate 4 true) told ≡ showEvents (terms .ring) (showAfter repeatedHead)
 repeated-whole told = whole-after repeatedHead repeated-honest told
 
-pub repeated-body : released (showEvents ring (showAfter repeatedHead)) ≡ octets "Hello world!"
+pub repeated-body : released (showEvents (terms .ring) (showAfter repeatedHead)) ≡ octets "Hello world!"
 repeated-body = body-after repeatedHead repeated-honest

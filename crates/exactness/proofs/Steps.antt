@@ -19,8 +19,8 @@ use Rattle.stream.specs.Events.{Question, Release, block, LastWord, closed}
 use Rattle.stream.specs.Head.{endsHead, isWholeHead, headOf}
 use Rattle.stream.specs.Limits.{headLimit, lineLimit}
 use Rattle.stream.specs.Lines.{crlf, endsWith}
-use Rattle.stream.specs.Ring.{Ring}
 use Rattle.stream.specs.Stream.{Show, Past, nothing, Context, head, firstLine, blockData, dataEnd, nextLine, trailer, isWhole, announced, after, showOf, headQuestion, acceptHead, judgeHead, judgeFirstLine, judgeDataEnd, blockOffset, bodyWith, blockQuestion, acceptBlock, judgeNextLine, judgeTrailer, judge, rules}
+use Rattle.stream.specs.Terms.{Terms}
 use Rattle.stream.specs.Trailer.{endsTrailer, isWholeTrailer}
 use Rattle.exactness.specs.Good.{GoodHead, GoodFirstLine, GoodNextLine, GoodTrailer}
 use Rattle.exactness.specs.Telling.{headAsks, headTells}
@@ -28,40 +28,40 @@ use Rattle.exactness.proofs.Ends.{first-whole, first-none}
 use Rattle.exactness.proofs.Wholes.{some-byte}
 use Rattle.exactness.proofs.Faults.{head-faultless, first-faultless, next-faultless, trailer-faultless}
 
-module _ (ring : Ring) where
+module _ (terms : Terms) where
   -- what the reading of the bytes r goes on with
   abbrev Rest : Type 0
   Rest = Context → List Bool → Log Question Release LastWord
 
   abbrev pub onRest : ℕ → List ℕ → Bool → Rest
-  onRest at r told = λ c answers. readingAt (rules ring) c at r answers told
+  onRest at r told = λ c answers. readingAt (rules terms) c at r answers told
 
   -- one section, which f is in the context c
   pub one-section : (c : Context) (at : ℕ) (f r : List ℕ) (answers : List Bool) (told : Bool)
       → 0 < length f → isWhole c f ≡ true → NoneBelow (isWhole c) f (length f)
-      → readingAt (rules ring) c at (f ++ r) answers told ≡ judged (rules ring) (judge ring c f) (at + length f) answers (onRest (at + length f) r told)
+      → readingAt (rules terms) c at (f ++ r) answers told ≡ judged (rules terms) (judge terms c f) (at + length f) answers (onRest (at + length f) r told)
   unfolding rules
   one-section c at f r answers told s e n =
-      section-read (rules ring) c at (f ++ r) answers told
-      ∙ ap (λ (k : Cut). oneSection (rules ring) c at (f ++ r) answers told k (λ c′ at′ r′ answers′. readingAt (rules ring) c′ at′ r′ answers′ told))
+      section-read (rules terms) c at (f ++ r) answers told
+      ∙ ap (λ (k : Cut). oneSection (rules terms) c at (f ++ r) answers told k (λ c′ at′ r′ answers′. readingAt (rules terms) c′ at′ r′ answers′ told))
       (cut-at (isWhole c) f r s e n)
 
   -- a good head gives its question
-  pub head-step : (h r : List ℕ) (answers : List Bool) (told : Bool) → GoodHead ring h
-      → readingAt (rules ring) head 0 (h ++ r) answers told
-      ≡ (length h, question (headAsks ring (headOf h)))
-      ∷ answered (rules ring) (granted (headTells (headOf h)) (firstLine (showOf ring (headOf h)))) (length h) answers (onRest (length h) r told)
+  pub head-step : (h r : List ℕ) (answers : List Bool) (told : Bool) → GoodHead terms h
+      → readingAt (rules terms) head 0 (h ++ r) answers told
+      ≡ (length h, question (headAsks (terms .ring) (headOf h)))
+      ∷ answered (rules terms) (granted (headTells (headOf h)) (firstLine (showOf (terms .ring) (headOf h)))) (length h) answers (onRest (length h) r told)
   unfolding isWhole isWholeHead judge judgeHead acceptHead headQuestion headAsks headTells endsHead endsWith same
   head-step h r answers told g =
       one-section head 0 h r answers told (some-byte endsHead h refl (g .ends .there))
       (first-whole endsHead headLimit h (g .ends))
       (first-none endsHead headLimit h (g .ends) (g .short))
-      ∙ rw (head-faultless ring h g, zero-add (length h))
+      ∙ rw (head-faultless terms h g, zero-add (length h))
 
   -- a good first line announces a block, or the trailer
   pub first-step : (s : Show) (at : ℕ) (l r : List ℕ) (answers : List Bool) (told : Bool) → GoodFirstLine (s .size) l
-      → readingAt (rules ring) (firstLine s) at (l ++ r) answers told
-      ≡ readingAt (rules ring) (announced s nothing 0 (chunkSize l)) (at + length l) r answers told
+      → readingAt (rules terms) (firstLine s) at (l ++ r) answers told
+      ≡ readingAt (rules terms) (announced s nothing 0 (chunkSize l)) (at + length l) r answers told
   unfolding isWhole isWholeLine judge judgeFirstLine endsWith same
   first-step s at l r answers told g =
       one-section (firstLine s) at l r answers told (some-byte (endsWith crlf) l refl (g .line .ends .there))
@@ -71,7 +71,7 @@ module _ (ring : Ring) where
 
   -- a block's data
   pub data-step : (s : Show) (p : Past) (n at : ℕ) (b r : List ℕ) (answers : List Bool) (told : Bool) → 1 ≤ length b → length b ≡ n
-      → readingAt (rules ring) (blockData s p n) at (b ++ r) answers told ≡ readingAt (rules ring) (dataEnd s p b) (at + length b) r answers told
+      → readingAt (rules terms) (blockData s p n) at (b ++ r) answers told ≡ readingAt (rules terms) (dataEnd s p b) (at + length b) r answers told
   unfolding isWhole judge
   data-step s p n at b r answers told i e = one-section (blockData s p n) at b r answers told i (le-leb n (length b) (omega arith)) none
     where
@@ -82,7 +82,7 @@ module _ (ring : Ring) where
 
   -- its CR LF
   pub end-step : (s : Show) (p : Past) (at : ℕ) (b r : List ℕ) (answers : List Bool) (told : Bool)
-      → readingAt (rules ring) (dataEnd s p b) at (crlf ++ r) answers told ≡ readingAt (rules ring) (nextLine s p b) (at + 2) r answers told
+      → readingAt (rules terms) (dataEnd s p b) at (crlf ++ r) answers told ≡ readingAt (rules terms) (nextLine s p b) (at + 2) r answers told
   unfolding isWhole judge judgeDataEnd same
   end-step s p at b r answers told = one-section (dataEnd s p b) at crlf r answers told (omega arith) refl none
     where
@@ -93,9 +93,9 @@ module _ (ring : Ring) where
 
   -- the line after it
   next-step : (s : Show) (p : Past) (at : ℕ) (b l r : List ℕ) (answers : List Bool) (told : Bool) → GoodNextLine (s .size) (bodyWith s p b) b l
-      → readingAt (rules ring) (nextLine s p b) at (l ++ r) answers told
+      → readingAt (rules terms) (nextLine s p b) at (l ++ r) answers told
       ≡ (at + length l, question (blockQuestion s p b l))
-      ∷ answered (rules ring) (granted (block (blockOffset s p) b) (announced s (after p b) (bodyWith s p b) (chunkSize l))) (at + length l) answers
+      ∷ answered (rules terms) (granted (block (blockOffset s p) b) (announced s (after p b) (bodyWith s p b) (chunkSize l))) (at + length l) answers
       (onRest (at + length l) r told)
   unfolding isWhole isWholeLine judge judgeNextLine acceptBlock endsWith same
   next-step s p at b l r answers told g =
@@ -107,9 +107,9 @@ module _ (ring : Ring) where
   -- a block, its CR LF and a good line after it give the block's question, at that line's last byte
   pub block-step : (s : Show) (p : Past) (n at : ℕ) (b l r : List ℕ) (answers : List Bool) (told : Bool) → 1 ≤ length b → length b ≡ n
       → GoodNextLine (s .size) (bodyWith s p b) b l
-      → readingAt (rules ring) (blockData s p n) at (b ++ (crlf ++ (l ++ r))) answers told
+      → readingAt (rules terms) (blockData s p n) at (b ++ (crlf ++ (l ++ r))) answers told
       ≡ (at + length b + 2 + length l, question (blockQuestion s p b l))
-      ∷ answered (rules ring) (granted (block (blockOffset s p) b) (announced s (after p b) (bodyWith s p b) (chunkSize l)))
+      ∷ answered (rules terms) (granted (block (blockOffset s p) b) (announced s (after p b) (bodyWith s p b) (chunkSize l)))
       (at + length b + 2 + length l) answers (onRest (at + length b + 2 + length l) r told)
   block-step s p n at b l r answers told i e g =
       data-step s p n at b (crlf ++ (l ++ r)) answers told i e
@@ -118,7 +118,7 @@ module _ (ring : Ring) where
 
   -- a good trailer closes the body
   pub trailer-step : (total at : ℕ) (t r : List ℕ) (answers : List Bool) (told : Bool) → GoodTrailer t
-      → readingAt (rules ring) (trailer total) at (t ++ r) answers told ≡ (at + length t, last (closed total)) ∷ []
+      → readingAt (rules terms) (trailer total) at (t ++ r) answers told ≡ (at + length t, last (closed total)) ∷ []
   unfolding isWhole isWholeTrailer judge judgeTrailer endsTrailer endsWith same
   trailer-step total at t r answers told g =
       one-section (trailer total) at t r answers told (some-byte endsTrailer t refl (g .ends .there))

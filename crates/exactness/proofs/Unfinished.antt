@@ -16,8 +16,8 @@ use Rattle.stream.specs.Events.{refused}
 use Rattle.stream.specs.Head.{endsHead, isWholeHead, headOf}
 use Rattle.stream.specs.Limits.{headLimit, lineLimit}
 use Rattle.stream.specs.Lines.{crlf, endsWith}
-use Rattle.stream.specs.Ring.{Ring}
 use Rattle.stream.specs.Stream.{head, firstLine, blockData, dataEnd, nextLine, trailer, isWhole, announced, showOf, rules, plainReading}
+use Rattle.stream.specs.Terms.{Terms}
 use Rattle.stream.specs.Trailer.{endsTrailer, isWholeTrailer}
 use Rattle.exactness.specs.Beginning.{Beginning, written, headIn, announces, body}
 use Rattle.exactness.specs.Refusals.{Unfinished, in-head, in-first-line, in-block, in-data-end, in-next-line, in-trailer}
@@ -34,46 +34,46 @@ shorter-none n l s m x y =
     let k : length (take m l) ≡ m = length-take-le m l (omega arith) in
     lt-leb n (length (take m l)) (omega arith)
 
-module _ (ring : Ring) where
+module _ (terms : Terms) where
   -- in a block
   block-out : (w : Beginning) (b : List ℕ) (others : List Bool) → length b < announces w
-      → readingAt (rules ring) (contextOf ring w) (length (written w)) b others true ≡ (length (written w) + length b, last (refused 11 0)) ∷ []
+      → readingAt (rules terms) (contextOf terms w) (length (written w)) b others true ≡ (length (written w) + length b, last (refused 11 0)) ∷ []
   unfolding isWhole
   block-out w b others s = by (announces w) s
     where
       by : (m : ℕ) → length b < m
-          → readingAt (rules ring) (announced (showOf ring (headIn w)) (pastOf w) (length (body w)) m) (length (written w)) b others true
+          → readingAt (rules terms) (announced (showOf (terms .ring) (headIn w)) (pastOf w) (length (body w)) m) (length (written w)) b others true
           ≡ (length (written w) + length b, last (refused 11 0)) ∷ []
       by zero s = absurd (omega arith)
       by (suc m) s =
-          out-step ring (blockData (showOf ring (headIn w)) (pastOf w) (suc m)) (length (written w)) b others (shorter-none (suc m) b s)
+          out-step terms (blockData (showOf (terms .ring) (headIn w)) (pastOf w) (suc m)) (length (written w)) b others (shorter-none (suc m) b s)
 
-  pub unfinished-stands : (S : List ℕ) (yeses : ℕ) (others : List Bool) → Unfinished ring S yeses
-      → Stands (length S, last (refused 11 0)) (plainReading ring S (replicate yeses true ++ others) true)
+  pub unfinished-stands : (S : List ℕ) (yeses : ℕ) (others : List Bool) → Unfinished terms S yeses
+      → Stands (length S, last (refused 11 0)) (plainReading terms S (replicate yeses true ++ others) true)
   unfolding plainReading reading isWhole isWholeHead isWholeLine isWholeTrailer
   unfinished-stands S yeses others (in-head {h = h} u) =
-      stands-last ring _ [] (length h) (0 + length h) (out-step ring head 0 h others (unended-none endsHead headLimit h u)) (omega arith)
+      stands-last terms _ [] (length h) (0 + length h) (out-step terms head 0 h others (unended-none endsHead headLimit h u)) (omega arith)
   unfinished-stands S yeses others (in-first-line {h = h} {l = l} g u) =
-      stands-last ring _ (headLog ring h) (length (h ++ l)) (length h + length l)
-      (head-then ring h l others true _ g
-      (out-step ring (firstLine (showOf ring (headOf h))) (length h) l others (unended-none (endsWith crlf) lineLimit l u)))
+      stands-last terms _ (headLog terms h) (length (h ++ l)) (length h + length l)
+      (head-then terms h l others true _ g
+      (out-step terms (firstLine (showOf (terms .ring) (headOf h))) (length h) l others (unended-none (endsWith crlf) lineLimit l u)))
       (sym (length-append h l))
   unfinished-stands S yeses others (in-block {w = w} b g s) =
-      stands-last ring _ (logOf ring w) (length (written w ++ b)) (length (written w) + length b)
-      (line-then ring w b others true _ g (block-out w b others s)) (sym (length-append (written w) b))
+      stands-last terms _ (logOf (terms .ring) w) (length (written w ++ b)) (length (written w) + length b)
+      (line-then terms w b others true _ g (block-out w b others s)) (sym (length-append (written w) b))
   unfinished-stands S yeses others (in-data-end {w = w} {b = b} e g a s) =
-      stands-last ring _ (logOf ring w) (length (written w ++ b ++ e)) (length (written w) + length b + length e)
-      (block-then ring w b e others true _ g a
-      (out-step ring (dataEnd (showOf ring (headIn w)) (pastOf w) b) (length (written w) + length b) e others (shorter-none 2 e s)))
+      stands-last terms _ (logOf (terms .ring) w) (length (written w ++ b ++ e)) (length (written w) + length b + length e)
+      (block-then terms w b e others true _ g a
+      (out-step terms (dataEnd (showOf (terms .ring) (headIn w)) (pastOf w) b) (length (written w) + length b) e others (shorter-none 2 e s)))
       (omega (arith, length-append (written w ++ b) e, length-append (written w) b))
   unfinished-stands S yeses others (in-next-line {w = w} {b = b} {l = l} g a u) =
       rw (← place-is w b l, onward-whole w b l)
-      (stands-last ring _ (logOf ring w) (length (written w) + length b + 2 + length l) (length (written w) + length b + 2 + length l)
-      (end-then ring w b l others true _ g a
-      (out-step ring (nextLine (showOf ring (headIn w)) (pastOf w) b) (length (written w) + length b + 2) l others (unended-none (endsWith crlf) lineLimit l u)))
+      (stands-last terms _ (logOf (terms .ring) w) (length (written w) + length b + 2 + length l) (length (written w) + length b + 2 + length l)
+      (end-then terms w b l others true _ g a
+      (out-step terms (nextLine (showOf (terms .ring) (headIn w)) (pastOf w) b) (length (written w) + length b + 2) l others (unended-none (endsWith crlf) lineLimit l u)))
       refl)
   unfinished-stands S yeses others (in-trailer {w = w} {t = t} g z u) =
-      stands-last ring _ (logOf ring w) (length (written w ++ t)) (length (written w) + length t)
-      (line-then ring w t others true _ g
-      (rw z (out-step ring (trailer (length (body w))) (length (written w)) t others (unended-none endsTrailer headLimit t u))))
+      stands-last terms _ (logOf (terms .ring) w) (length (written w ++ t)) (length (written w) + length t)
+      (line-then terms w t others true _ g
+      (rw z (out-step terms (trailer (length (body w))) (length (written w)) t others (unended-none endsTrailer headLimit t u))))
       (sym (length-append (written w) t))

@@ -7,11 +7,11 @@ use mathlib.Core.Path.{_≡_}
 use Prim.Native.Nat.{ℕ, _+_, _≤_, _<_}
 use lib.ListN.{length, take}
 use Rattle.stream.specs.Blocks.{isChunkLine, carriesSignature, chunkSize}
-use Rattle.stream.specs.Head.{endsHead, headOf, blockSize, textRules, trustRules}
+use Rattle.stream.specs.Head.{endsHead, headOf, blockSize, textRules, callerRules}
 use Rattle.stream.specs.Limits.{headLimit, lineLimit, bodyLimit}
 use Rattle.stream.specs.Lines.{crlf, endsWith, textLines, areFieldLines}
-use Rattle.stream.specs.Ring.{Ring}
 use Rattle.stream.specs.Rule.{Rule}
+use Rattle.stream.specs.Terms.{Terms}
 use Rattle.stream.specs.Trailer.{endsTrailer}
 use Rattle.exactness.specs.Beginning.{Beginning, opening, onward, size, announces, body}
 
@@ -25,12 +25,13 @@ pub record EndsFirst (ends : List ℕ → Bool) (l : List ℕ) : Type 0 where
   pub there : ends l ≡ true
   pub earlier : (n : ℕ) → n < length l → ends (take n l) ≡ false
 
--- A good head ends within 8,192 bytes, keeps every rule of its text, and its key is trusted.
-pub record GoodHead (ring : Ring) (l : List ℕ) : Type 0 where
+-- A good head ends within 8,192 bytes, keeps every rule of its text, and is what the caller's terms ask for: its URI is the asked one, and its
+-- key is trusted.
+pub record GoodHead (terms : Terms) (l : List ℕ) : Type 0 where
   pub ends : EndsFirst endsHead l
   pub short : length l ≤ headLimit
   pub text : Kept (textRules l (headOf l))
-  pub trust : Kept (trustRules ring (headOf l))
+  pub caller : Kept (callerRules terms (headOf l))
 
 -- A good chunk line ends within 128 bytes and is written as a line is; it announces at most N bytes, and with them the body,
 -- of which `sofar` bytes came before, keeps its limit.
@@ -60,10 +61,10 @@ pub record Announced (w : Beginning) (b : List ℕ) : Type 0 where
 
 -- THE GOOD BEGINNINGS. A good head and a good first line are one; and so is a good beginning with the block that it
 -- announces and a good line after that.
-pub data Good (ring : Ring) : Beginning → Type 0 where
-  opens : {h l : List ℕ} → GoodHead ring h → GoodFirstLine (blockSize (headOf h)) l → Good ring (opening h l)
-  goes-on : {w : Beginning} {b l : List ℕ} → Good ring w → Announced w b → GoodNextLine (size w) (length (body w ++ b)) b l
-      → Good ring (onward w b l)
+pub data Good (terms : Terms) : Beginning → Type 0 where
+  opens : {h l : List ℕ} → GoodHead terms h → GoodFirstLine (blockSize (headOf h)) l → Good terms (opening h l)
+  goes-on : {w : Beginning} {b l : List ℕ} → Good terms w → Announced w b → GoodNextLine (size w) (length (body w ++ b)) b l
+      → Good terms (onward w b l)
 
 -- A good trailer ends within 8,192 bytes, and all that it holds are field lines.
 pub record GoodTrailer (t : List ℕ) : Type 0 where

@@ -6,3 +6,5 @@ pub mod Telling
 pub mod Releases
 pub mod Shows
 pub mod ShowEvents
+pub mod MessageLines
+pub mod AskedFor

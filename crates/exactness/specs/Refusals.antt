@@ -9,11 +9,11 @@ use lib.ListN.{length, take}
 use Rattle.octets.specs.Viable.{LongestViable}
 use Rattle.stream.specs.Blocks.{isChunkLine, lineRules}
 use Rattle.stream.specs.GoodText.{isGoodHead, isGoodDataEnd, isGoodTrailer}
-use Rattle.stream.specs.Head.{endsHead, headOf, blockSize, textRules, trustRules}
+use Rattle.stream.specs.Head.{endsHead, headOf, blockSize, textRules, callerRules}
 use Rattle.stream.specs.Limits.{headLimit, lineLimit}
 use Rattle.stream.specs.Lines.{crlf, endsWith}
-use Rattle.stream.specs.Ring.{Ring}
 use Rattle.stream.specs.Rule.{firstBroken}
+use Rattle.stream.specs.Terms.{Terms}
 use Rattle.stream.specs.Trailer.{endsTrailer, isTrailer}
 use Rattle.exactness.specs.Beginning.{Beginning, onward, written, size, announces, body, questions}
 use Rattle.exactness.specs.Good.{EndsFirst, GoodHead, Announced, Good}
@@ -30,35 +30,35 @@ pub record Unended (ends : List ℕ → Bool) (limit : ℕ) (l : List ℕ) : Typ
   pub under : length l < limit
   pub none : (n : ℕ) → n ≤ length l → ends (take n l) ≡ false
 
--- `Refuses ring front yeses n place`: the last byte of `front` breaks a rule, with the refusal n, where all before it is good and
+-- `Refuses terms front yeses n place`: the last byte of `front` breaks a rule, with the refusal n, where all before it is good and
 -- `yeses` questions were answered with yes. Of several broken rules the first in the paper's order gives the number; the place is
 -- counted from the first byte of the head, line, data end or trailer.
-pub data Refuses (ring : Ring) : List ℕ → ℕ → ℕ → ℕ → Type 0 where
-  -- 3, 4, 5 and 12
+pub data Refuses (terms : Terms) : List ℕ → ℕ → ℕ → ℕ → Type 0 where
+  -- 3, 4, 5, 16 and 12
   head-refused : {h : List ℕ} {n place : ℕ} → Whole endsHead headLimit h
-      → firstBroken (textRules h (headOf h) ++ trustRules ring (headOf h)) ≡ suc n
-      → WentWrong endsHead isGoodHead h (suc n) place → Refuses ring h 0 (suc n) place
+      → firstBroken (textRules h (headOf h) ++ callerRules terms (headOf h)) ≡ suc n
+      → WentWrong endsHead isGoodHead h (suc n) place → Refuses terms h 0 (suc n) place
   -- 6, 8, 7 and 9: on the first line no signature is due, and nothing came before
-  first-line-refused : {h l : List ℕ} {n place : ℕ} → GoodHead ring h → Whole (endsWith crlf) lineLimit l
+  first-line-refused : {h l : List ℕ} {n place : ℕ} → GoodHead terms h → Whole (endsWith crlf) lineLimit l
       → firstBroken (lineRules (blockSize (headOf h)) false true 0 l) ≡ suc n
-      → WentWrong (endsWith crlf) isChunkLine l (suc n) place → Refuses ring (h ++ l) 1 (suc n) place
-  next-line-refused : {w : Beginning} {b l : List ℕ} {n place : ℕ} → Good ring w → Announced w b → Whole (endsWith crlf) lineLimit l
+      → WentWrong (endsWith crlf) isChunkLine l (suc n) place → Refuses terms (h ++ l) 1 (suc n) place
+  next-line-refused : {w : Beginning} {b l : List ℕ} {n place : ℕ} → Good terms w → Announced w b → Whole (endsWith crlf) lineLimit l
       → firstBroken (lineRules (size w) true (eqb (length b) (size w)) (length (body w ++ b)) l) ≡ suc n
-      → WentWrong (endsWith crlf) isChunkLine l (suc n) place → Refuses ring (written (onward w b l)) (questions w) (suc n) place
+      → WentWrong (endsWith crlf) isChunkLine l (suc n) place → Refuses terms (written (onward w b l)) (questions w) (suc n) place
   -- "data end .. wrong": two bytes that are not CR LF
-  data-end-refused : {w : Beginning} {b e : List ℕ} {place : ℕ} → Good ring w → Announced w b → length e ≡ 2 → (e ≡ crlf → ⊥)
-      → LongestViable isGoodDataEnd e place → Refuses ring (written w ++ b ++ e) (questions w) 6 place
+  data-end-refused : {w : Beginning} {b e : List ℕ} {place : ℕ} → Good terms w → Announced w b → length e ≡ 2 → (e ≡ crlf → ⊥)
+      → LongestViable isGoodDataEnd e place → Refuses terms (written w ++ b ++ e) (questions w) 6 place
   -- "trailer text wrong or too long"
-  trailer-refused : {w : Beginning} {t : List ℕ} {place : ℕ} → Good ring w → announces w ≡ 0 → Whole endsTrailer headLimit t → isTrailer t ≡ false
-      → WentWrong endsTrailer isGoodTrailer t 6 place → Refuses ring (written w ++ t) (questions w) 6 place
+  trailer-refused : {w : Beginning} {t : List ℕ} {place : ℕ} → Good terms w → announces w ≡ 0 → Whole endsTrailer headLimit t → isTrailer t ≡ false
+      → WentWrong endsTrailer isGoodTrailer t 6 place → Refuses terms (written w ++ t) (questions w) 6 place
 
--- `Unfinished ring S yeses`: the stream S breaks off, after so many yeses, within one of its parts or between two of them.
-pub data Unfinished (ring : Ring) : List ℕ → ℕ → Type 0 where
-  in-head : {h : List ℕ} → Unended endsHead headLimit h → Unfinished ring h 0
-  in-first-line : {h l : List ℕ} → GoodHead ring h → Unended (endsWith crlf) lineLimit l → Unfinished ring (h ++ l) 1
-  in-block : {w : Beginning} (b : List ℕ) → Good ring w → length b < announces w → Unfinished ring (written w ++ b) (questions w)
-  in-data-end : {w : Beginning} {b : List ℕ} (e : List ℕ) → Good ring w → Announced w b → length e < 2 → Unfinished ring (written w ++ b ++ e) (questions w)
-  in-next-line : {w : Beginning} {b l : List ℕ} → Good ring w → Announced w b → Unended (endsWith crlf) lineLimit l
-      → Unfinished ring (written (onward w b l)) (questions w)
-  in-trailer : {w : Beginning} {t : List ℕ} → Good ring w → announces w ≡ 0 → Unended endsTrailer headLimit t
-      → Unfinished ring (written w ++ t) (questions w)
+-- `Unfinished terms S yeses`: the stream S breaks off, after so many yeses, within one of its parts or between two of them.
+pub data Unfinished (terms : Terms) : List ℕ → ℕ → Type 0 where
+  in-head : {h : List ℕ} → Unended endsHead headLimit h → Unfinished terms h 0
+  in-first-line : {h l : List ℕ} → GoodHead terms h → Unended (endsWith crlf) lineLimit l → Unfinished terms (h ++ l) 1
+  in-block : {w : Beginning} (b : List ℕ) → Good terms w → length b < announces w → Unfinished terms (written w ++ b) (questions w)
+  in-data-end : {w : Beginning} {b : List ℕ} (e : List ℕ) → Good terms w → Announced w b → length e < 2 → Unfinished terms (written w ++ b ++ e) (questions w)
+  in-next-line : {w : Beginning} {b l : List ℕ} → Good terms w → Announced w b → Unended (endsWith crlf) lineLimit l
+      → Unfinished terms (written (onward w b l)) (questions w)
+  in-trailer : {w : Beginning} {t : List ℕ} → Good terms w → announces w ≡ 0 → Unended endsTrailer headLimit t
+      → Unfinished terms (written w ++ t) (questions w)

@@ -8,15 +8,15 @@ use lib.ListN.{length, replicate}
 use Rattle.stream.specs.Events.{headAccepted}
 use Rattle.stream.specs.Head.{headOf}
 use Rattle.stream.specs.Lines.{Field}
-use Rattle.stream.specs.Ring.{Ring}
+use Rattle.stream.specs.Terms.{Terms}
 use Rattle.exactness.specs.Beginning.{Beginning, onward, written, offset, questions}
 use Rattle.exactness.specs.Good.{GoodHead, Good}
 use Rattle.exactness.specs.Telling.{headTells}
 
 -- The stream begins with a good head of that status and those signed fields, which ends at the place; the first answer is yes.
-pub record AcceptsHead (ring : Ring) (S : List ℕ) (answers : List Bool) (at status : ℕ) (fields : List Field) : Type 0 where
+pub record AcceptsHead (terms : Terms) (S : List ℕ) (answers : List Bool) (at status : ℕ) (fields : List Field) : Type 0 where
   pub head : List ℕ
-  pub good : GoodHead ring head
+  pub good : GoodHead terms head
   pub says : headTells (headOf head) ≡ headAccepted status fields
   pub rest : List ℕ
   pub stream : head ++ rest ≡ S
@@ -26,10 +26,10 @@ pub record AcceptsHead (ring : Ring) (S : List ℕ) (answers : List Bool) (at st
 
 -- The stream begins with a good beginning whose last block is b, at that offset of the body, and whose last line, the one with
 -- the signature of b, ends at the place; and the answers, up to and with the one to the question about b, are all yes.
-pub record ReleasesBlock (ring : Ring) (S : List ℕ) (answers : List Bool) (at o : ℕ) (b : List ℕ) : Type 0 where
+pub record ReleasesBlock (terms : Terms) (S : List ℕ) (answers : List Bool) (at o : ℕ) (b : List ℕ) : Type 0 where
   pub before : Beginning
   pub line : List ℕ
-  pub good : Good ring (onward before b line)
+  pub good : Good terms (onward before b line)
   pub where-in-body : offset before ≡ o
   pub rest : List ℕ
   pub stream : written (onward before b line) ++ rest ≡ S

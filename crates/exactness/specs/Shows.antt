@@ -12,7 +12,7 @@ use Rattle.stream.specs.Head.{headOf, blockSize}
 use Rattle.stream.specs.Limits.{sizeDigits, bodyLimit}
 use Rattle.stream.specs.Lines.{crlf}
 use Rattle.stream.specs.Numbers.{isHexNumber, hexValue}
-use Rattle.stream.specs.Ring.{Ring}
+use Rattle.stream.specs.Terms.{Terms}
 use Rattle.exactness.specs.Beginning.{Beginning, opening, onward}
 use Rattle.exactness.specs.Good.{GoodHead, GoodTrailer}
 
@@ -77,8 +77,8 @@ Sized N [] = Unit {0}
 Sized N (c ∷ []) = length (c .block) ≤ N
 Sized N (c ∷ d ∷ cs) = (length (c .block) ≡ N) × Sized N (d ∷ cs)
 
-pub record Honest (ring : Ring) (s : WholeShow) : Type 0 where
-  pub head : GoodHead ring (s .head)
+pub record Honest (terms : Terms) (s : WholeShow) : Type 0 where
+  pub head : GoodHead terms (s .head)
   pub chunks : HonestChunks (s .chunks)
   pub sized : Sized (blockSize (headOf (s .head))) (s .chunks)
   pub total : length (bodyOf (s .chunks)) ≤ bodyLimit

@@ -11,6 +11,7 @@ use Rattle.stream.specs.Events.{Question, Release, headAccepted, block, LastWor
 use Rattle.stream.specs.Head.{Head, headOf, statusDigits, injectionId, headSignature, signedOf, signingString, trustedBy}
 use Rattle.stream.specs.Numbers.{decimalValue}
 use Rattle.stream.specs.Ring.{Ring, numberOf}
+use Rattle.stream.specs.Terms.{Terms}
 use Rattle.exactness.specs.Beginning.{Beginning, opening, onward, written, headIn, announces, body, hash, offset, questions}
 use Rattle.exactness.specs.Good.{GoodHead, Good, GoodTrailer}
 use Rattle.exactness.specs.Refusals.{Refuses, Unfinished}
@@ -39,22 +40,22 @@ blockAsks ring w b l =
 
 -- ---- where each event is decided
 
--- `Decides ring front yeses e`: the last byte of `front` decides the event e, where `yeses` questions were answered with yes.
+-- `Decides terms front yeses e`: the last byte of `front` decides the event e, where `yeses` questions were answered with yes.
 -- A question is asked when all before it were answered so; what it asks for is told, at the same byte, on one yes more.
-pub data Decides (ring : Ring) : List ℕ → ℕ → StreamEvent → Type 0 where
-  head-asked : {h : List ℕ} → GoodHead ring h → Decides ring h 0 (question (headAsks ring (headOf h)))
-  head-told : {h : List ℕ} → GoodHead ring h → Decides ring h 1 (message (headTells (headOf h)))
-  block-asked : {w : Beginning} {b l : List ℕ} → Good ring (onward w b l)
-      → Decides ring (written (onward w b l)) (questions w) (question (blockAsks ring w b l))
-  block-told : {w : Beginning} {b l : List ℕ} → Good ring (onward w b l)
-      → Decides ring (written (onward w b l)) (suc (questions w)) (message (block (offset w) b))
-  body-closed : {w : Beginning} {t : List ℕ} → Good ring w → announces w ≡ 0 → GoodTrailer t
-      → Decides ring (written w ++ t) (questions w) (last (closed (length (body w))))
-  rule-broken : {front : List ℕ} {yeses n place : ℕ} → Refuses ring front yeses n place → Decides ring front yeses (last (refused n place))
+pub data Decides (terms : Terms) : List ℕ → ℕ → StreamEvent → Type 0 where
+  head-asked : {h : List ℕ} → GoodHead terms h → Decides terms h 0 (question (headAsks (terms .ring) (headOf h)))
+  head-told : {h : List ℕ} → GoodHead terms h → Decides terms h 1 (message (headTells (headOf h)))
+  block-asked : {w : Beginning} {b l : List ℕ} → Good terms (onward w b l)
+      → Decides terms (written (onward w b l)) (questions w) (question (blockAsks (terms .ring) w b l))
+  block-told : {w : Beginning} {b l : List ℕ} → Good terms (onward w b l)
+      → Decides terms (written (onward w b l)) (suc (questions w)) (message (block (offset w) b))
+  body-closed : {w : Beginning} {t : List ℕ} → Good terms w → announces w ≡ 0 → GoodTrailer t
+      → Decides terms (written w ++ t) (questions w) (last (closed (length (body w))))
+  rule-broken : {front : List ℕ} {yeses n place : ℕ} → Refuses terms front yeses n place → Decides terms front yeses (last (refused n place))
 
 -- The event e is due at the place `at` of the stream S: a beginning of S of that length decides it, and the answers begin
 -- with all the yeses that it needs.
-pub record Due (ring : Ring) (S : List ℕ) (answers : List Bool) (at : ℕ) (e : StreamEvent) : Type 0 where
+pub record Due (terms : Terms) (S : List ℕ) (answers : List Bool) (at : ℕ) (e : StreamEvent) : Type 0 where
   pub front : List ℕ
   pub rest : List ℕ
   pub stream : front ++ rest ≡ S
@@ -62,16 +63,16 @@ pub record Due (ring : Ring) (S : List ℕ) (answers : List Bool) (at : ℕ) (e 
   pub yeses : ℕ
   pub others : List Bool
   pub granted : replicate yeses true ++ others ≡ answers
-  pub decides : Decides ring front yeses e
+  pub decides : Decides terms front yeses e
 
 -- All that may be told of a stream: an event that is due; refusal 10 where a question is due and the answer to it is no; and
 -- refusal 11, at the place of all the bytes, where the end was told and the stream is unfinished.
-pub data Expected (ring : Ring) (S : List ℕ) (answers : List Bool) (told : Bool) : ℕ → StreamEvent → Type 0 where
-  on-time : {at : ℕ} {e : StreamEvent} → Due ring S answers at e → Expected ring S answers told at e
-  denied : {at : ℕ} {q : Question} (d : Due ring S answers at (question q)) (others : List Bool) → d .others ≡ false ∷ others
-      → Expected ring S answers told at (last (refused 10 0))
-  broken-off : (yeses : ℕ) (others : List Bool) → replicate yeses true ++ others ≡ answers → Unfinished ring S yeses → told ≡ true
-      → Expected ring S answers told (length S) (last (refused 11 0))
+pub data Expected (terms : Terms) (S : List ℕ) (answers : List Bool) (told : Bool) : ℕ → StreamEvent → Type 0 where
+  on-time : {at : ℕ} {e : StreamEvent} → Due terms S answers at e → Expected terms S answers told at e
+  denied : {at : ℕ} {q : Question} (d : Due terms S answers at (question q)) (others : List Bool) → d .others ≡ false ∷ others
+      → Expected terms S answers told at (last (refused 10 0))
+  broken-off : (yeses : ℕ) (others : List Bool) → replicate yeses true ++ others ≡ answers → Unfinished terms S yeses → told ≡ true
+      → Expected terms S answers told (length S) (last (refused 11 0))
 
 -- x stands in the list
 pub record Stands {A : Type 0} (x : A) (l : List A) : Type 0 where

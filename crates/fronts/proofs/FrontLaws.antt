@@ -40,10 +40,10 @@ module _ (r : Reader) (h b q : List ℕ) (i j k : ℕ) (ei : i ≡ min headLimit
     put-back : (c : Response) → made o h' b' q' ≡ c → made o (h' ++ drop i h) (b' ++ drop j b) (q' ++ drop k q) ≡ backed whole c
     put-back c e = rw (ei, ej, ek, drop-min headLimit h, drop-min blockLimit b, drop-min headLimit q) (ap (λ (c : Response). backed whole c) e)
 
-    pub fed-front : (keys : KeyRing) (piece : List ℕ) → made o h' b' q' ≡ feedOf keys (configuration r (take i h) (take j b) (take k q)) piece
-        → made o (h' ++ drop i h) (b' ++ drop j b) (q' ++ drop k q) ≡ feedFront keys whole piece
+    pub fed-front : (keys : KeyRing) (uri piece : List ℕ) → made o h' b' q' ≡ feedOf keys uri (configuration r (take i h) (take j b) (take k q)) piece
+        → made o (h' ++ drop i h) (b' ++ drop j b) (q' ++ drop k q) ≡ feedFront keys uri whole piece
     unfolding feedFront
-    fed-front keys piece e = put-back _ (e ∙ ap (λ (d : Configuration). feedOf keys d piece) lent-is)
+    fed-front keys uri piece e = put-back _ (e ∙ ap (λ (d : Configuration). feedOf keys uri d piece) lent-is)
 
     pub answered-front : (good : Bool) → made o h' b' q' ≡ answerOf (configuration r (take i h) (take j b) (take k q)) good
         → made o (h' ++ drop i h) (b' ++ drop j b) (q' ++ drop k q) ≡ answerFront whole good

@@ -24,8 +24,8 @@ backed d c =
     (c .after .block ++ drop blockLimit (d .block))
     (c .after .question ++ drop headLimit (d .question)))
 
-unfoldable pub feedFront : KeyRing → Configuration → List ℕ → Response
-feedFront ring d piece = backed d (feedOf ring (firstParts d) piece)
+unfoldable pub feedFront : KeyRing → List ℕ → Configuration → List ℕ → Response
+feedFront ring uri d piece = backed d (feedOf ring uri (firstParts d) piece)
 
 unfoldable pub answerFront : Configuration → Bool → Response
 answerFront d good = backed d (answerOf (firstParts d) good)

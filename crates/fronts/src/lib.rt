@@ -25,9 +25,10 @@ pub fn feed(
     block: &mut [u8],
     question: &mut [u8],
     ring: KeyRing,
+    uri: &[u8],
     piece: &[u8],
 ) -> Outcome
-    ensures { λ o. ⌜ made o (now (head .exit)) (now (block .exit)) (now (question .exit)) ≡ feedFront ring (configuration r (now (head .entry)) (now (block .entry)) (now (question .entry))) (now (piece .entry)) ⌝ }
+    ensures { λ o. ⌜ made o (now (head .exit)) (now (block .exit)) (now (question .exit)) ≡ feedFront ring (now (uri .entry)) (configuration r (now (head .entry)) (now (block .entry)) (now (question .entry))) (now (piece .entry)) ⌝ }
 {
     let h = least(HEAD_ROOM, head.len());
     let b = least(BLOCK_ROOM, block.len());
@@ -38,6 +39,7 @@ pub fn feed(
         &mut block[..b],
         &mut question[..q],
         ring,
+        uri,
         piece,
     )
 }

@@ -10,12 +10,12 @@ use borrow.Author.Tests.{eq-eqb, le-leb, lt-leb, eqb-true}
 use Rattle.octets.specs.Choice.{pick}
 use Rattle.stream.specs.Bytes.{same}
 use Rattle.stream.specs.Fields.{among, valueOf, valuesOf, countOf}
-use Rattle.stream.specs.Head.{endsHead, headOf, textRules, trustRules, headFault, signedOf}
+use Rattle.stream.specs.Head.{endsHead, headOf, textRules, callerRules, headFault, signedOf}
 use Rattle.stream.specs.Limits.{headLimit}
 use Rattle.stream.specs.Lines.{Field, endsWith}
-use Rattle.stream.specs.Ring.{Ring}
 use Rattle.stream.specs.Rule.{Rule, firstBroken}
 use Rattle.stream.specs.Template.{nth}
+use Rattle.stream.specs.Terms.{Terms}
 use Rattle.stream.proofs.SignedLaws.{first-value, signed-of}
 use Rattle.text.proofs.SameLaws.{both-false}
 use Rattle.places.specs.Place.{partOf}
@@ -106,10 +106,10 @@ front-kept (r ∷ rs) ss h = by (r .holds) h (front-kept rs ss)
     by false k ih = k
 
 -- a head was accepted: its first n bytes have no fault
-pub handed-signed : (ring : Ring) (room : List ℕ) (n : ℕ) → headLimit ≤ length room → n ≤ length room → headFault ring (take n room) ≡ 0
+pub handed-signed : (terms : Terms) (room : List ℕ) (n : ℕ) → headLimit ≤ length room → n ≤ length room → headFault terms (take n room) ≡ 0
     → handedFields room n ≡ signedOf (headOf (take n room))
 unfolding headFault handedFields fieldsOut
-handed-signed ring room n h k z =
+handed-signed terms room n h k z =
     let t = take n room in
-    let e : firstBroken (textRules t (headOf t)) ≡ 0 = front-kept (textRules t (headOf t)) (trustRules ring (headOf t)) z in
+    let e : firstBroken (textRules t (headOf t)) ≡ 0 = front-kept (textRules t (headOf t)) (callerRules terms (headOf t)) z in
     rw (room-whole room n h k, sub-zero n, eq-eqb (firstBroken (textRules t (headOf t))) 0 e)

@@ -4,9 +4,9 @@ use Prim.Native.Nat.{ℕ}
 use Rattle.octets.specs.Choice.{pick}
 use Rattle.base64.specs.Base64.{isBase64, base64Bytes}
 use Rattle.stream.specs.Ring.{Ring}
-use Rattle.signing.specs.declared.judging.HeadAnswer.{HeadAnswer}
-use Rattle.signing.specs.declared.judging.HeadAnswer.the-variants.{Refused, Asks}
-use Rattle.signing.specs.Judgement.{Judgement, headJudged}
+use Rattle.judging.specs.declared.HeadAnswer.{HeadAnswer}
+use Rattle.judging.specs.declared.HeadAnswer.the-variants.{Refused, Asks}
+use Rattle.judging.specs.Judgement.{Judgement, headJudged}
 
 -- The result, and what the lent bytes then are.
 pub record Answer : Type 0 where
@@ -28,5 +28,5 @@ oneKey text first last = pick (isBase64 32 text) (record { key = base64Bytes 32 
 abbrev pub told : Judgement → Answer
 told j = made (numberOf (j .answer .answer)) (j .question)
 
-abbrev pub answered : List ℕ → List ℕ → ℕ → ℕ → List ℕ → Answer
-answered text key first last question = told (headJudged (oneKey key first last) text question)
+abbrev pub answered : List ℕ → List ℕ → ℕ → ℕ → List ℕ → List ℕ → Answer
+answered text key first last uri question = told (headJudged (record { ring = oneKey key first last; uri = uri }) text question)

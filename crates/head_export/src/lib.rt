@@ -1,7 +1,7 @@
 // The judgement of a head for a program in C or Rust, with numbers and slices of bytes alone.
+use judging::HeadAnswer;
 use ring::KeyRecord;
 use ring::KeyRing;
-use signing::HeadAnswer;
 ghost use mathlib.Core.Path.{_≡_};
 ghost use Rattle.ring.specs.Keys.{ringOf};
 ghost use Rattle.head_export.specs.Export.{made, answered, numberOf, oneKey};
@@ -34,11 +34,12 @@ pub extern "C" fn thawrushes_judge_head(
     key: &[u8],
     first: u64,
     last: u64,
+    uri: &[u8],
     question: &mut [u8],
 ) -> u8
-    ensures { λ r. ⌜ made r (now (question .exit)) ≡ answered (now (text .entry)) (now (key .entry)) first last (now (question .entry)) ⌝ }
+    ensures { λ r. ⌜ made r (now (question .exit)) ≡ answered (now (text .entry)) (now (key .entry)) first last (now (uri .entry)) (now (question .entry)) ⌝ }
 {
-    let judged = signing::judge(text, one_key(key, first, last), question);
+    let judged = judging::judge(text, one_key(key, first, last), uri, question);
     let answer = judged.answer;
     number_of(answer)
 }

@@ -3,7 +3,7 @@
 use mathlib.Core.List.{List}
 use mathlib.Core.Path.{_≡_, sym, ap, _∙_}
 use Prim.Native.Nat.{ℕ}
-use Rattle.signing.specs.declared.judging.HeadAnswer.{HeadAnswer}
+use Rattle.judging.specs.declared.HeadAnswer.{HeadAnswer}
 use Rattle.state.specs.Configuration.{Configuration, Next}
 use Rattle.head_steps.specs.HeadByte.{headAnswered}
 

@@ -6,12 +6,12 @@ use lib.Dec.{leb}
 use lib.ListN.{length, take, set}
 use Rattle.octets.specs.Choice.{pick}
 use Rattle.refusals.specs.Refusals.{placed}
-use Rattle.signing.specs.Judgement.{Judgement, headJudged}
-use Rattle.signing.specs.declared.judging.HeadAnswer.{HeadAnswer}
-use Rattle.signing.specs.declared.judging.HeadAnswer.the-variants as A
+use Rattle.judging.specs.Judgement.{Judgement, headJudged}
+use Rattle.judging.specs.declared.HeadAnswer.{HeadAnswer}
+use Rattle.judging.specs.declared.HeadAnswer.the-variants as A
 use Rattle.stream.specs.Head.{isWholeHead}
 use Rattle.stream.specs.Limits.{headLimit}
-use Rattle.stream.specs.Ring.{Ring}
+use Rattle.stream.specs.Terms.{Terms}
 use Rattle.state.specs.Configuration.{Configuration, configuration, inPhase, readerAt, Next, on, stop, refuse}
 use Rattle.state.specs.declared.phase.Phase.the-variants as P
 use Rattle.state.specs.declared.reader.Fixed.{Fixed}
@@ -39,13 +39,13 @@ abbrev pub judgedAt : Configuration → ℕ → Judgement → Next
 judgedAt d n j = headAnswered (configuration (d .reader) (d .head) (d .block) (j .question)) n (j .answer .answer) (j .answer .signature) (j .answer .id)
 
 -- the first n bytes of the head buffer are a whole head, or it goes on
-unfoldable pub headGathered : Ring → Configuration → ℕ → Next
-headGathered ring d n =
-    pick (isWholeHead (take n (d .head))) (judgedAt d n (headJudged ring (take n (d .head)) (d .question))) (on d)
+unfoldable pub headGathered : Terms → Configuration → ℕ → Next
+headGathered terms d n =
+    pick (isWholeHead (take n (d .head))) (judgedAt d n (headJudged terms (take n (d .head)) (d .question))) (on d)
 
 -- in a state that no stream leads to, with a count past the buffer, the head is refused as too long
-unfoldable pub pushHead : Ring → Configuration → ℕ → ℕ → Next
-pushHead ring d have x =
+unfoldable pub pushHead : Terms → Configuration → ℕ → ℕ → Next
+pushHead terms d have x =
     pick (leb (length (d .head)) have)
     (refuse (placed 3 headLimit) 0 d)
-    (headGathered ring (configuration (inPhase (d .reader) (P.Head (have + 1))) (set (d .head) have x) (d .block) (d .question)) (have + 1))
+    (headGathered terms (configuration (inPhase (d .reader) (P.Head (have + 1))) (set (d .head) have x) (d .block) (d .question)) (have + 1))

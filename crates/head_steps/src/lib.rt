@@ -1,10 +1,10 @@
 // What one byte of the head does: it is gathered from the front of the head buffer, and the head that is whole with it is judged.
 use blocks::BlockNumber;
 use head::HEAD_LIMIT;
+use judging::HeadAnswer;
+use judging::Judged;
 use refusals::Refusal;
 use ring::KeyRing;
-use signing::HeadAnswer;
-use signing::Judged;
 use state::Fixed;
 use state::Phase;
 use state::Reader;
@@ -14,7 +14,7 @@ ghost use mathlib.Core.List.{List};
 ghost use mathlib.Core.Path.{_≡_};
 ghost use Prim.Native.Nat.{ℕ, _≤_};
 ghost use lib.ListN.{length};
-ghost use Rattle.ring.specs.Keys.{ringOf};
+ghost use Rattle.ring.specs.Keys.{termsOf};
 ghost use Rattle.stream.specs.Head.{isWholeHead};
 ghost use Rattle.state.specs.Configuration.{configuration, nextOf};
 ghost use Rattle.head_steps.specs.HeadByte.{asking, headAnswered, headGathered, pushHead};
@@ -76,14 +76,21 @@ fn answer_judged(r: Reader, n: usize, judged: Judged) -> Stepped
 }
 
 // With its newest byte, the head is the first n bytes of the head buffer.
-fn judge_head(r: Reader, head: &[u8], question: &mut [u8], ring: KeyRing, n: usize) -> Stepped
+fn judge_head(
+    r: Reader,
+    head: &[u8],
+    question: &mut [u8],
+    ring: KeyRing,
+    uri: &[u8],
+    n: usize,
+) -> Stepped
     requires { ⌜ n ≤ length (now head) ⌝ }
-    ensures { λ s. ⌜ ((b : List ℕ) → nextOf s (now (head .entry)) b (now (question .exit)) ≡ headGathered (ringOf ring) (configuration r (now (head .entry)) b (now (question .entry))) n) ⌝ }
+    ensures { λ s. ⌜ ((b : List ℕ) → nextOf s (now (head .entry)) b (now (question .exit)) ≡ headGathered (termsOf ring (now (uri .entry))) (configuration r (now (head .entry)) b (now (question .entry))) n) ⌝ }
 {
     if !is_whole_head(&head[0..n]) {
         return state::said(Word::More, r);
     }
-    let judged = signing::judge(&head[0..n], ring, question);
+    let judged = judging::judge(&head[0..n], ring, uri, question);
     answer_judged(r, n, judged)
 }
 
@@ -93,10 +100,11 @@ pub fn push_head(
     head: &mut [u8],
     question: &mut [u8],
     ring: KeyRing,
+    uri: &[u8],
     have: usize,
     x: u8,
 ) -> Stepped
-    ensures { λ s. ⌜ ((b : List ℕ) → nextOf s (now (head .exit)) b (now (question .exit)) ≡ pushHead (ringOf ring) (configuration r (now (head .entry)) b (now (question .entry))) have x) ⌝ }
+    ensures { λ s. ⌜ ((b : List ℕ) → nextOf s (now (head .exit)) b (now (question .exit)) ≡ pushHead (termsOf ring (now (uri .entry))) (configuration r (now (head .entry)) b (now (question .entry))) have x) ⌝ }
 {
     if head.len() <= have {
         let why = Refusal {
@@ -112,6 +120,7 @@ pub fn push_head(
         head,
         question,
         ring,
+        uri,
         next,
     )
 }

@@ -3,10 +3,10 @@ use crate::keys;
 use crate::lines::say;
 use crate::lines::say_count;
 use crate::lines::say_number;
+use judging::HeadAnswer;
 use number::Number;
 use refusals::Refusal;
 use ring::KeyRing;
-use signing::HeadAnswer;
 ghost use Prim.Native.Nat.{_+_, _<_, _≤_};
 ghost use lib.ListN.{length};
 
@@ -60,8 +60,9 @@ fn size(digits: &[u8]) -> usize
     n as usize
 }
 
+// Whatever the head is, the same URI is asked for.
 fn judge_case(label: &[u8], head: &[u8], ring: KeyRing, question: &mut [u8; 8192]) {
-    let judged = signing::judge(head, ring, question);
+    let judged = judging::judge(head, ring, b"https://example.com/hello", question);
     let id = judged.id;
     let signature = judged.signature;
     let answer = judged.answer;

@@ -16,7 +16,7 @@ use Rattle.stream.specs.Blocks.{isWholeLine, carriesSignature, isChunkLine, chu
 use Rattle.stream.specs.Bytes.{all, same, lowered, sameName}
 use Rattle.stream.specs.Events.{Question, Release, LastWord, closed, refused}
 use Rattle.stream.specs.Fields.{among, isDoubled, isProtected, isProtectedDoubled, namesOf, hasField, valueOf}
-use Rattle.stream.specs.Head.{endsHead, isWholeHead, headWith, headOf, statusDigits, injectionId, injectionTime, blockSize, blockKey, headKey, listedNames, headSignature, trustedBy, textRules, trustRules, headFault}
+use Rattle.stream.specs.Head.{endsHead, isWholeHead, headWith, headOf, statusDigits, injectionId, injectionTime, blockSize, blockKey, headKey, listedNames, headSignature, trustedBy, textRules, callerRules, headFault}
 use Rattle.stream.specs.Lines.{endsWith, lines, beforeEmpty, textLines, trimmed, fieldScan, isFieldLine, fieldOf, areFieldLines, fieldsOf, statusScan, isStatusLine, statusOf}
 use Rattle.stream.specs.Numbers.{numberFrom, isDecimal, isHexNumber, decimalWithin, decimal}
 use Rattle.stream.specs.Ring.{fits, firstFrom, found}
@@ -26,18 +26,19 @@ use Rattle.stream.specs.Signing.{separated, signingLine, signingText}
 use Rattle.stream.specs.Stream.{isWhole, showOf, judgeFirstLine, judgeDataEnd, blockQuestion, acceptBlock, judgeNextLine, judgeTrailer, judge, rules}
 use Rattle.stream.specs.Template.{run, past, startsWith, scan}
 use Rattle.stream.specs.Trailer.{endsTrailer, isWholeTrailer, isTrailer}
-use Rattle.stream.proofs.Example.{ring, injection, exampleHead, exampleBody}
+use Rattle.stream.proofs.Example.{terms, injection, exampleHead, exampleBody}
 use Rattle.stream.proofs.Example as Written
 use Rattle.stream.proofs.Truth.{or-true}
 use Rattle.kept.specs.Kept.{NeverRefused}
-use Rattle.kept.specs.Older.{olderRules, olderFault, singleFields, olderSigned, olderString, olderQuestion, olderAccept, olderJudge, olderReading}
+use Rattle.kept.specs.Older.{olderRules, olderFault, singleFields, olderSigned, olderString, olderQuestion, olderAccept, olderHead, olderReading}
+use Rattle.kept.specs.OtherHeads.{judgeWith, readingWith}
 
 abbrev twice : List ℕ
 twice = Written.headWith (injection ++ octets "\r\nDate: Sat") (octets "5")
 
 -- the example was good before; with the field twice it was refused with 3, and is good now
-pub example-faults : olderFault ring exampleHead ∷ olderFault ring twice ∷ headFault ring twice ∷ [] ≡ 0 ∷ 3 ∷ 0 ∷ []
-unfolding isBase64 letterValue holdsThree holdsTwo holdsOne joinedLetters base64Bytes all same lowered sameName among isDoubled isProtected isProtectedDoubled namesOf hasField valueOf endsHead headWith headOf statusDigits injectionTime blockSize blockKey headKey listedNames trustedBy textRules trustRules headFault endsWith lines beforeEmpty textLines trimmed fieldScan isFieldLine fieldOf areFieldLines fieldsOf statusScan isStatusLine statusOf numberFrom isDecimal fits firstFrom found firstBroken injectionScan isInjection bsigsScan isBsigs sig0Scan isSig0 splitNames areFields isNameList run past startsWith scan olderRules olderFault
+pub example-faults : olderFault terms exampleHead ∷ olderFault terms twice ∷ headFault terms twice ∷ [] ≡ 0 ∷ 3 ∷ 0 ∷ []
+unfolding isBase64 letterValue holdsThree holdsTwo holdsOne joinedLetters base64Bytes all same lowered sameName among isDoubled isProtected isProtectedDoubled namesOf hasField valueOf endsHead headWith headOf statusDigits injectionTime blockSize blockKey headKey listedNames trustedBy textRules callerRules headFault endsWith lines beforeEmpty textLines trimmed fieldScan isFieldLine fieldOf areFieldLines fieldsOf statusScan isStatusLine statusOf numberFrom isDecimal fits firstFrom found firstBroken injectionScan isInjection bsigsScan isBsigs sig0Scan isSig0 splitNames areFields isNameList run past startsWith scan olderRules olderFault
 example-faults = refl
 
 -- ---- a reading without a refusal
@@ -63,10 +64,10 @@ never-refused n log h place at s =
     true≢false (sym (refused-there n place at (s .before) (s .after)) ∙ ap (isRefused n) (s .joined) ∙ h)
 
 abbrev exampleReading : Log Question Release LastWord
-exampleReading = olderReading ring (exampleHead ++ exampleBody) (replicate 4 true) true
+exampleReading = olderReading terms (exampleHead ++ exampleBody) (replicate 4 true) true
 
 unrefused : isRefused 3 exampleReading ≡ false
-unfolding isBase64 letterValue holdsThree holdsTwo holdsOne joinedLetters base64Bytes cut sections readingAt reading isWholeLine carriesSignature isChunkLine chunkSize lineSignature lineRules lineFault chained blockMessage all same lowered sameName among isDoubled isProtected isProtectedDoubled namesOf hasField valueOf endsHead isWholeHead headWith headOf statusDigits injectionId injectionTime blockSize blockKey headKey listedNames headSignature trustedBy textRules trustRules headFault endsWith lines beforeEmpty textLines trimmed fieldScan isFieldLine fieldOf areFieldLines fieldsOf statusScan isStatusLine statusOf numberFrom isDecimal isHexNumber decimalWithin decimal fits firstFrom found firstBroken injectionScan isInjection bsigsScan isBsigs sig0Scan isSig0 splitNames areFields isNameList separated signingLine signingText isWhole showOf judgeFirstLine judgeDataEnd blockQuestion acceptBlock judgeNextLine judgeTrailer judge rules bigEndian padding padded number parsed schedule round rounds sums compressed hashed unparsed digest roundWords sha512 run past startsWith scan endsTrailer isWholeTrailer isTrailer isRefused olderRules olderFault singleFields olderSigned olderString olderQuestion olderAccept olderJudge olderReading
+unfolding isBase64 letterValue holdsThree holdsTwo holdsOne joinedLetters base64Bytes cut sections readingAt reading isWholeLine carriesSignature isChunkLine chunkSize lineSignature lineRules lineFault chained blockMessage all same lowered sameName among isDoubled isProtected isProtectedDoubled namesOf hasField valueOf endsHead isWholeHead headWith headOf statusDigits injectionId injectionTime blockSize blockKey headKey listedNames headSignature trustedBy textRules callerRules headFault endsWith lines beforeEmpty textLines trimmed fieldScan isFieldLine fieldOf areFieldLines fieldsOf statusScan isStatusLine statusOf numberFrom isDecimal isHexNumber decimalWithin decimal fits firstFrom found firstBroken injectionScan isInjection bsigsScan isBsigs sig0Scan isSig0 splitNames areFields isNameList separated signingLine signingText isWhole showOf judgeFirstLine judgeDataEnd blockQuestion acceptBlock judgeNextLine judgeTrailer judge rules bigEndian padding padded number parsed schedule round rounds sums compressed hashed unparsed digest roundWords sha512 run past startsWith scan endsTrailer isWholeTrailer isTrailer isRefused olderRules olderFault singleFields olderSigned olderString olderQuestion olderAccept olderHead olderReading judgeWith readingWith
 unrefused = refl
 
 -- what is said of readings without refusal 3 is said of this one

@@ -5,17 +5,18 @@ use mathlib.Core.Path.{_≡_, refl}
 use Prim.Native.Nat.{ℕ, zero, suc, _+_}
 use lib.Dec.{eqb}
 use lib.ListN.{length}
-use Rattle.sections.specs.Reading.{Log, go, tell, ask, stop, Grant, granted, final, Cut, uncut, cutAt, cut, answered, judged, oneSection, sections}
+use Rattle.sections.specs.Reading.{Log, go, tell, ask, stop, Grant, granted, final, Cut, uncut, cutAt, cut, answered, judged, oneSection, sections, readingAt, reading}
+use Rattle.sections.proofs.Scans.{section-read}
 use Rattle.stream.specs.Blocks.{lineFault, chunkSize}
 use Rattle.stream.specs.Bytes.{same}
 use Rattle.stream.specs.Events.{Question, Release, LastWord}
-use Rattle.stream.specs.Head.{headOf, headFault}
+use Rattle.stream.specs.Head.{isWholeHead, headOf, headFault}
 use Rattle.stream.specs.Lines.{crlf}
 use Rattle.stream.specs.Places.{headPlace, linePlace}
-use Rattle.stream.specs.Ring.{Ring}
-use Rattle.stream.specs.Stream.{Show, Past, nothing, after, Context, head, firstLine, blockData, dataEnd, nextLine, trailer, isWhole, Says, unlessBroken, announced, acceptHead, acceptBlock, bodyWith, judgeHead, judgeFirstLine, judgeDataEnd, judgeNextLine, judgeTrailer, judge, rules}
+use Rattle.stream.specs.Stream.{Show, Past, nothing, after, Context, head, firstLine, blockData, dataEnd, nextLine, trailer, isWhole, Says, unlessBroken, announced, acceptHead, acceptBlock, bodyWith, judgeHead, judgeFirstLine, judgeDataEnd, judgeNextLine, judgeTrailer, judge, rules, plainReading}
+use Rattle.stream.specs.Terms.{Terms}
 use Rattle.stream.specs.Trailer.{isTrailer}
-use Rattle.kept.specs.Older.{olderJudge, olderWays}
+use Rattle.kept.specs.OtherHeads.{judgeWith, rulesWith, readingWith}
 
 -- ---- where a section leads
 
@@ -48,31 +49,31 @@ test-leads : (t : Bool) (v w : Says) → LeadsOn v → LeadsOn w → LeadsOn (el
 test-leads true v w k m = k
 test-leads false v w k m = m
 
-judge-leads : (ring : Ring) (c : Context) (l : List ℕ) → LeadsOn (judge ring c l)
+judge-leads : (terms : Terms) (c : Context) (l : List ℕ) → LeadsOn (judge terms c l)
 unfolding judge judgeHead judgeFirstLine judgeDataEnd judgeNextLine judgeTrailer acceptHead acceptBlock
-judge-leads ring head l = unless-leads (headFault ring l) (headPlace l) (acceptHead ring (headOf l)) tt
-judge-leads ring (firstLine s) l =
+judge-leads terms head l = unless-leads (headFault terms l) (headPlace l) (acceptHead (terms .ring) (headOf l)) tt
+judge-leads terms (firstLine s) l =
     unless-leads (lineFault (s .size) false true 0 l) (linePlace l) (go (announced s nothing 0 (chunkSize l)))
     (announced-later s nothing 0 (chunkSize l))
-judge-leads ring (blockData s p n) l = tt
-judge-leads ring (dataEnd s p b) l = test-leads (same l crlf) _ _ tt tt
-judge-leads ring (nextLine s p b) l =
+judge-leads terms (blockData s p n) l = tt
+judge-leads terms (dataEnd s p b) l = test-leads (same l crlf) _ _ tt tt
+judge-leads terms (nextLine s p b) l =
     unless-leads (lineFault (s .size) true (eqb (length b) (s .size)) (bodyWith s p b) l) (linePlace l) (acceptBlock s p b l)
     (announced-later s (after p b) (bodyWith s p b) (chunkSize l))
-judge-leads ring (trailer total) l = test-leads (isTrailer l) _ _ tt tt
+judge-leads terms (trailer total) l = test-leads (isTrailer l) _ _ tt tt
 
 -- ---- the two readings
 
-judge-same : (ring : Ring) (c : Context) (l : List ℕ) → Later c → judge ring c l ≡ olderJudge ring c l
-unfolding olderJudge
-judge-same ring head l k = absurd k
-judge-same ring (firstLine s) l k = refl
-judge-same ring (blockData s p n) l k = refl
-judge-same ring (dataEnd s p b) l k = refl
-judge-same ring (nextLine s p b) l k = refl
-judge-same ring (trailer total) l k = refl
+judge-same : (terms : Terms) (other : List ℕ → Says) (c : Context) (l : List ℕ) → Later c → judge terms c l ≡ judgeWith other c l
+unfolding judge judgeWith
+judge-same terms other head l k = absurd k
+judge-same terms other (firstLine s) l k = refl
+judge-same terms other (blockData s p n) l k = refl
+judge-same terms other (dataEnd s p b) l k = refl
+judge-same terms other (nextLine s p b) l k = refl
+judge-same terms other (trailer total) l k = refl
 
-module _ (ring : Ring) where
+module _ (terms : Terms) (other : List ℕ → Says) where
   abbrev Next : Type 0
   Next = Context → List Bool → Log Question Release LastWord
 
@@ -81,14 +82,15 @@ module _ (ring : Ring) where
   SameNext next next′ = (c : Context) (answers : List Bool) → Later c → next c answers ≡ next′ c answers
 
   answered-same : (q : Question) (y : Grant Context Release LastWord) (at : ℕ) (answers : List Bool) (next next′ : Next) → LeadsOn (ask q y)
-      → SameNext next next′ → answered (rules ring) y at answers next ≡ answered (olderWays ring) y at answers next′
+      → SameNext next next′ → answered (rules terms) y at answers next ≡ answered (rulesWith other) y at answers next′
+  unfolding rules
   answered-same q y at [] next next′ k same = refl
   answered-same q (granted e c) at (true ∷ answers) next next′ k same = rw (same c answers k)
   answered-same q (final l) at (true ∷ answers) next next′ k same = refl
   answered-same q y at (false ∷ answers) next next′ k same = refl
 
   judged-same : (v : Says) (at : ℕ) (answers : List Bool) (next next′ : Next) → LeadsOn v → SameNext next next′
-      → judged (rules ring) v at answers next ≡ judged (olderWays ring) v at answers next′
+      → judged (rules terms) v at answers next ≡ judged (rulesWith other) v at answers next′
   judged-same (go c) at answers next next′ k same = same c answers k
   judged-same (tell e c) at answers next next′ k same = rw (same c answers k)
   judged-same (ask q y) at answers next next′ k same = rw (answered-same q y at answers next next′ k same)
@@ -98,24 +100,48 @@ module _ (ring : Ring) where
   abbrev SameFrom : ℕ → Context → Type 0
   SameFrom k c =
       (at : ℕ) (bs : List ℕ) (answers : List Bool) (told : Bool)
-      → sections (rules ring) k c at bs answers told ≡ sections (olderWays ring) k c at bs answers told
+      → sections (rules terms) k c at bs answers told ≡ sections (rulesWith other) k c at bs answers told
 
   section-same : (k : ℕ) (c : Context) (at : ℕ) (bs : List ℕ) (answers : List Bool) (told : Bool) (m : Cut)
-      → ((f r : List ℕ) → m ≡ cutAt f r → judge ring c f ≡ olderJudge ring c f) → ((c′ : Context) → Later c′ → SameFrom k c′)
-      → oneSection (rules ring) c at bs answers told m (λ c′ at′ r answers′. sections (rules ring) k c′ at′ r answers′ told)
-      ≡ oneSection (olderWays ring) c at bs answers told m (λ c′ at′ r answers′. sections (olderWays ring) k c′ at′ r answers′ told)
+      → ((f r : List ℕ) → m ≡ cutAt f r → judge terms c f ≡ judgeWith other c f) → ((c′ : Context) → Later c′ → SameFrom k c′)
+      → oneSection (rules terms) c at bs answers told m (λ c′ at′ r answers′. sections (rules terms) k c′ at′ r answers′ told)
+      ≡ oneSection (rulesWith other) c at bs answers told m (λ c′ at′ r answers′. sections (rulesWith other) k c′ at′ r answers′ told)
   unfolding rules
   section-same k c at bs answers told uncut here rest = refl
   section-same k c at bs answers told (cutAt f r) here rest =
       rw (← here f r refl)
-      (judged-same (judge ring c f) (at + length f) answers _ _ (judge-leads ring c f) (λ c′ answers′ later. rest c′ later (at + length f) r answers′ told))
+      (judged-same (judge terms c f) (at + length f) answers _ _ (judge-leads terms c f) (λ c′ answers′ later. rest c′ later (at + length f) r answers′ told))
 
   -- all is read the same where the first section is judged the same
-  pub sections-same : (k : ℕ) (c : Context) (at : ℕ) (bs : List ℕ) (answers : List Bool) (told : Bool)
-      → ((f r : List ℕ) → cut (isWhole c) bs ≡ cutAt f r → judge ring c f ≡ olderJudge ring c f)
-      → sections (rules ring) k c at bs answers told ≡ sections (olderWays ring) k c at bs answers told
+  sections-same : (k : ℕ) (c : Context) (at : ℕ) (bs : List ℕ) (answers : List Bool) (told : Bool)
+      → ((f r : List ℕ) → cut (isWhole c) bs ≡ cutAt f r → judge terms c f ≡ judgeWith other c f)
+      → sections (rules terms) k c at bs answers told ≡ sections (rulesWith other) k c at bs answers told
   unfolding sections rules
   sections-same zero c at bs answers told here = refl
   sections-same (suc k) c at bs answers told here =
       section-same k c at bs answers told (cut (isWhole c) bs) here
-      (λ c′ later at′ r answers′ told′. sections-same k c′ at′ r answers′ told′ (λ f r′ e. judge-same ring c′ f later))
+      (λ c′ later at′ r answers′ told′. sections-same k c′ at′ r answers′ told′ (λ f r′ e. judge-same terms other c′ f later))
+
+  -- THE READING IS THE SAME where the stream's head is judged the same
+  pub reading-same : (stream : List ℕ) (answers : List Bool) (told : Bool)
+      → ((l r : List ℕ) → cut isWholeHead stream ≡ cutAt l r → judgeHead terms l ≡ other l)
+      → plainReading terms stream answers told ≡ readingWith other stream answers told
+  unfolding plainReading readingWith reading readingAt isWhole judge judgeWith
+  reading-same stream answers told here = sections-same (length stream) head 0 stream answers told here
+
+-- ---- the reading by its head
+
+-- what the head says, and the reading of what comes after it; where the stream has no whole head, the end only
+abbrev pub fromHead : (List ℕ → Says) → List ℕ → List Bool → Bool → Cut → Log Question Release LastWord
+fromHead other stream answers told m =
+    oneSection (rulesWith other) head 0 stream answers told m (λ c at r answers′. readingAt (rulesWith other) c at r answers′ told)
+
+pub from-head : (other : List ℕ → Says) (stream : List ℕ) (answers : List Bool) (told : Bool)
+    → readingWith other stream answers told ≡ fromHead other stream answers told (cut isWholeHead stream)
+unfolding readingWith reading isWhole
+from-head other stream answers told = section-read (rulesWith other) head 0 stream answers told
+
+-- with the judge of now it is the plain reading
+pub with-this-judge : (terms : Terms) (stream : List ℕ) (answers : List Bool) (told : Bool)
+    → plainReading terms stream answers told ≡ readingWith (judgeHead terms) stream answers told
+with-this-judge terms stream answers told = reading-same terms (judgeHead terms) stream answers told (λ l r e. refl)

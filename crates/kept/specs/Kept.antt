@@ -1,14 +1,17 @@
 -- What a request leaves as it was. Assumes nothing.
-use mathlib.Core.Bool.{Bool}
-use mathlib.Core.List.{List}
+use mathlib.Core.Bool.{Bool, true, false}
+use mathlib.Core.List.{List, [], _∷_}
 use mathlib.Core.Path.{_≡_}
 use Prim.Native.Nat.{ℕ}
-use Rattle.sections.specs.Reading.{last, Log}
-use Rattle.stream.specs.Events.{Question, Release, LastWord, refused}
-use Rattle.stream.specs.Ring.{Ring}
+use lib.Dec.{eqb}
+use Rattle.sections.specs.Reading.{question, message, last, Log}
+use Rattle.stream.specs.Events.{Question, Release, LastWord, closed, refused}
 use Rattle.stream.specs.Stream.{plainReading}
-use Rattle.exactness.specs.Telling.{Stands}
+use Rattle.stream.specs.Terms.{Terms}
+use Rattle.exactness.specs.AskedFor.{uriOf}
+use Rattle.exactness.specs.Telling.{StreamEvent, Stands}
 use Rattle.kept.specs.Older.{olderReading}
+use Rattle.kept.specs.Unasked.{unaskedReading}
 
 -- the reading does not end in that refusal, at whatever place
 abbrev pub NeverRefused : ℕ → Log Question Release LastWord → Type 0
@@ -17,5 +20,32 @@ NeverRefused n log = (place at : ℕ) → Stands (place, last (refused n at)) lo
 -- Request #102: what the older rules do not refuse with 3, a good stream above all, gives the same events as before.
 abbrev pub SameEvents : Type 0
 SameEvents =
-    (ring : Ring) (stream : List ℕ) (answers : List Bool) (told : Bool) → NeverRefused 3 (olderReading ring stream answers told)
-    → plainReading ring stream answers told ≡ olderReading ring stream answers told
+    (terms : Terms) (stream : List ℕ) (answers : List Bool) (told : Bool) → NeverRefused 3 (olderReading terms stream answers told)
+    → plainReading terms stream answers told ≡ olderReading terms stream answers told
+
+-- ---- request #105
+
+-- Where the URI of the stream's head is the one that was asked for, it gives the same events as before, whatever the ring and the answers.
+abbrev pub SameWhereAsked : Type 0
+SameWhereAsked =
+    (terms : Terms) (stream : List ℕ) (answers : List Bool) (told : Bool) → uriOf stream ≡ terms .uri
+    → plainReading terms stream answers told ≡ unaskedReading (terms .ring) stream answers told
+
+-- told of a head whose text is good: its question, or refusal 12
+abbrev pub isOfGoodText : StreamEvent → Bool
+isOfGoodText (question q) = true
+isOfGoodText (message e) = false
+isOfGoodText (last (closed total)) = false
+isOfGoodText (last (refused n place)) = eqb n 12
+
+-- by the first event: a head of good text is refused with 16 instead, at the same byte, and nothing follows; any other reading stays
+unfoldable pub asAnotherShow : Log Question Release LastWord → Log Question Release LastWord
+asAnotherShow [] = []
+asAnotherShow ((at, e) ∷ log) = elim (isOfGoodText e) [ true ↦ (at, last (refused 16 0)) ∷ [] | false ↦ (at, e) ∷ log ]
+
+-- Where the URI is another, a head that was refused with 3, 4 or 5, or did not come to its end, is told of as before; any other is refused
+-- with 16, whether it was asked about or refused with 12.
+abbrev pub RefusedWhereNot : Type 0
+RefusedWhereNot =
+    (terms : Terms) (stream : List ℕ) (answers : List Bool) (told : Bool) → (uriOf stream ≡ terms .uri → ⊥)
+    → plainReading terms stream answers told ≡ asAnotherShow (unaskedReading (terms .ring) stream answers told)

@@ -1,2 +1,4 @@
+pub mod OtherHeads
 pub mod Older
+pub mod Unasked
 pub mod Kept

@@ -16,7 +16,7 @@ use Rattle.stream.specs.Blocks.{isWholeLine, carriesSignature, isChunkLine, chu
 use Rattle.stream.specs.Bytes.{all, same, lowered, sameName}
 use Rattle.stream.specs.Events.{Question, Release, headAccepted, block, LastWord, closed, refused}
 use Rattle.stream.specs.Fields.{among, isDoubled, isProtected, isProtectedDoubled, namesOf, hasField, valueOf, valuesOf}
-use Rattle.stream.specs.Head.{endsHead, isWholeHead, headWith, headOf, statusDigits, injectionId, injectionTime, blockSize, blockKey, headKey, listedNames, headSignature, signedOf, signingString, trustedBy, textRules, trustRules, headFault}
+use Rattle.stream.specs.Head.{endsHead, isWholeHead, headWith, headOf, statusDigits, injectionId, injectionTime, blockSize, blockKey, headKey, listedNames, headSignature, signedOf, signingString, trustedBy, textRules, callerRules, headFault}
 use Rattle.stream.specs.Lines.{endsWith, lines, beforeEmpty, textLines, trimmed, fieldScan, isFieldLine, fieldOf, areFieldLines, fieldsOf, statusScan, isStatusLine, statusOf}
 use Rattle.stream.specs.Numbers.{numberFrom, hexValue, isDecimal, isHexNumber, decimalWithin, decimal}
 use Rattle.stream.specs.Ring.{Ring, fits, firstFrom, found}
@@ -25,8 +25,9 @@ use Rattle.stream.specs.Signatures.{injectionScan, isInjection, bsigsScan, isBs
 use Rattle.stream.specs.Signing.{separated, signedFields, joinedFields, signingLine, signingText}
 use Rattle.stream.specs.Stream.{Show, firstLine, nextLine, trailer, isWhole, showOf, headQuestion, acceptHead, judgeHead, judgeFirstLine, judgeDataEnd, blockQuestion, acceptBlock, judgeNextLine, judgeTrailer, judge, rules, plainReading}
 use Rattle.stream.specs.Template.{run, past, startsWith, scan}
+use Rattle.stream.specs.Terms.{Terms}
 use Rattle.stream.specs.Trailer.{endsTrailer, isWholeTrailer, isTrailer}
-use Rattle.stream.proofs.Example.{key, signature, signedLine, injection, exampleHead, ring}
+use Rattle.stream.proofs.Example.{key, signature, signedLine, injection, exampleHead, terms}
 
 -- ---- rows
 
@@ -148,9 +149,19 @@ put k l ls = set ls k l
 abbrev without : ℕ → List (List ℕ) → List (List ℕ)
 without k ls = take k ls ++ drop (suc k) ls
 
+-- the terms with this URI, or with this ring
+abbrev asking : String → Terms
+asking s = record { ring = terms .ring; uri = octets s }
+
+abbrev trusting : Ring → Terms
+trusting r = record { ring = r; uri = terms .uri }
+
 -- the refusal's number, 0 where the head is good
+abbrev faultBy : Terms → List (List ℕ) → List ℕ
+faultBy t ls = headFault t (asLines ls) ∷ []
+
 abbrev fault : List (List ℕ) → List ℕ
-fault ls = headFault ring (asLines ls) ∷ []
+fault ls = faultBy terms ls
 
 -- of heads with one line changed
 abbrev faults : ℕ → List String → List ℕ
@@ -194,18 +205,21 @@ listing n =
 
 -- what a ring makes of the example's head: the refusal's number, or 0, and the number of the record found
 abbrev ringSays : Ring → List ℕ
-ringSays r = headFault r exampleHead ∷ headQuestion r (headOf exampleHead) .keyNumber ∷ []
+ringSays r = headFault (trusting r) exampleHead ∷ headQuestion r (headOf exampleHead) .keyNumber ∷ []
 
 abbrev otherKey : List ℕ
 otherKey = 1 ∷ replicate 31 0
 
--- ---- bodies: block size 5, and no ring, since it "is read only when the head is judged"
+-- ---- bodies: block size 5, and neither ring nor URI, since both are "read only when the head is judged"
+
+abbrev pub noTerms : Terms
+noTerms = record { ring = []; uri = [] }
 
 abbrev pub show : Show
 show = record { id = octets "abc"; size = 5; keyNumber = 7 }
 
 abbrev body : List Bool → Bool → List ℕ → List ℕ
-body answers end bytes = placed (reading (rules []) (firstLine show) bytes answers end)
+body answers end bytes = placed (reading (rules noTerms) (firstLine show) bytes answers end)
 
 abbrev yes : List Bool
 yes = true ∷ true ∷ true ∷ []
@@ -224,7 +238,7 @@ signed s = signedLine (octets s)
 -- a trailer by itself, of a body of 5 bytes
 abbrev trailers : List String → List ℕ
 trailers [] = []
-trailers (s ∷ ss) = placed (reading (rules []) (trailer 5) (octets s) [] false) ++ trailers ss
+trailers (s ∷ ss) = placed (reading (rules noTerms) (trailer 5) (octets s) [] false) ++ trailers ss
 
 -- document 000's example, as it prints it, but for key and signatures
 abbrev documentHead : List ℕ
@@ -251,20 +265,20 @@ pub headTexts : List Row
 headTexts =
     -- sections and their ends
     row 1 "a head of just 8,192 bytes is good"
-    (length (longHead 8_192) ∷ asNumber (isWholeHead (take 8_191 (longHead 8_192))) ∷ headFault ring (longHead 8_192) ∷ [])
+    (length (longHead 8_192) ∷ asNumber (isWholeHead (take 8_191 (longHead 8_192))) ∷ headFault terms (longHead 8_192) ∷ [])
     (8_192 ∷ 0 ∷ 0 ∷ [])
     ∷ row 1 "without its end it is whole at 8,192 bytes, and is 3"
     (asNumber (isWholeHead (take 8_191 (longHead 8_193)))
     ∷ asNumber (isWholeHead (take 8_192 (longHead 8_193)))
-    ∷ headFault ring (take 8_192 (longHead 8_193))
+    ∷ headFault terms (take 8_192 (longHead 8_193))
     ∷ [])
     (0 ∷ 1 ∷ 3 ∷ [])
     ∷ row 1 "a bad byte changes nothing until the end has come, which is at the first empty line"
-    (placed (plainReading ring (0 ∷ octets "x\r\n\n\r\r\n") [] false)
-    ++ placed (plainReading ring (0 ∷ octets "x\r\n\n\r\r\n\r\n\r\n") [] false)
-    ++ placed (plainReading ring (octets "\r\n\r\n") [] false))
+    (placed (plainReading terms (0 ∷ octets "x\r\n\n\r\r\n") [] false)
+    ++ placed (plainReading terms (0 ∷ octets "x\r\n\n\r\r\n\r\n\r\n") [] false)
+    ++ placed (plainReading terms (octets "\r\n\r\n") [] false))
     (10 ∷ 5 ∷ 3 ∷ 4 ∷ 5 ∷ 3 ∷ [])
-    ∷ row 1 "the end told within it is 11, at the number of all bytes" (placed (plainReading ring (octets "HT") [] true) ++ placed (plainReading ring [] [] true))
+    ∷ row 1 "the end told within it is 11, at the number of all bytes" (placed (plainReading terms (octets "HT") [] true) ++ placed (plainReading terms [] [] true))
     (2 ∷ 5 ∷ 11 ∷ 0 ∷ 5 ∷ 11 ∷ [])
     ∷ row 2 "a line without its end is 6 at 128 bytes"
     (body yes false (replicate 127 48) ++ body yes false (replicate 200 48) ++ body yes false (replicate 127 48 ++ octets "\r\n"))
@@ -325,7 +339,7 @@ headTexts =
     ++ fault (headLines ++ (97 ∷ 128 ∷ 58 ∷ []) ∷ []))
     (0 ∷ 3 ∷ 3 ∷ 3 ∷ 3 ∷ 3 ∷ [])
     ∷ row 8 "no field is good text, an empty line for the status line is not"
-    (headFault ring (octets "HTTP/1.1 200 OK\r\n\r\n") ∷ headFault ring (octets "\r\nHTTP/1.1 200 OK\r\n\r\n") ∷ headFault ring (octets "\r\n\r\n") ∷ [])
+    (headFault terms (octets "HTTP/1.1 200 OK\r\n\r\n") ∷ headFault terms (octets "\r\nHTTP/1.1 200 OK\r\n\r\n") ∷ headFault terms (octets "\r\n\r\n") ∷ [])
     (4 ∷ 3 ∷ 3 ∷ [])
     ∷ row 8 "64 fields, and 65" (fault (headLines ++ extraLines (extraNames 56)) ++ fault (headLines ++ extraLines (extraNames 57))) (0 ∷ 3 ∷ [])
     ∷ row 8 "a doubled name, in another case, signed or not, and names that are only alike"
@@ -357,7 +371,7 @@ headRules =
     (5 ∷ 5 ∷ 5 ∷ 5 ∷ 5 ∷ 0 ∷ 4 ∷ [])
     ∷ row 9 "5 goes before status, key and all of 4 that comes after it"
     (fault (put status (octets "HTTP/1.1 404 x") (put version (octets "X-Ouinet-Version: 5") headLines))
-    ++ (headFault [] (asLines (put version (octets "X-Ouinet-Version: 5") (without bsigss headLines))) ∷ [])
+    ++ faultBy noTerms (put version (octets "X-Ouinet-Version: 5") (without bsigss headLines))
     ++ fault (put status (octets "HTTP/1.1 404 x") (without version headLines)))
     (5 ∷ 5 ∷ 4 ∷ [])
     ∷ row 9 "the statuses" (faults status ("HTTP/1.1 301 x" ∷ "HTTP/1.1 302 x" ∷ "HTTP/1.1 307 x" ∷ "HTTP/1.1 206 x" ∷ "HTTP/1.1 304 x" ∷ "HTTP/1.1 404 x" ∷ []))
@@ -365,11 +379,34 @@ headRules =
     ∷ row 9 "coding, length and URI"
     (faults coding ("transfer-encoding:CHUNKED" ∷ "Transfer-Encoding: gzip, chunked" ∷ "Transfer-Encoding: chunked;q=1" ∷ "Transfer-Encoding:" ∷ "Coding: chunked" ∷ [])
     ++ fault (headLines ++ (octets "content-LENGTH:") ∷ [])
-    ++ faults uri ("X-Ouinet-URI:x" ∷ "X-Ouinet-URI:" ∷ "X-Ouinet-URI: \t" ∷ []))
+    ++ faultBy (asking "x") (put uri (octets "X-Ouinet-URI:x") headLines)
+    ++ faults uri ("X-Ouinet-URI:" ∷ "X-Ouinet-URI: \t" ∷ []))
     (0 ∷ 4 ∷ 4 ∷ 4 ∷ 4 ∷ 4 ∷ 0 ∷ 4 ∷ 4 ∷ [])
     ∷ row 9 "a field that a rule needs, absent" (fault (without uri headLines) ++ fault (without inject headLines) ++ fault (without bsigss headLines) ++ fault (without sig0s headLines) ++ fault (without coding headLines))
     (4 ∷ 4 ∷ 4 ∷ 4 ∷ 4 ∷ [])
-    ∷ row 9 "12 goes last" (headFault [] (asLines headLines) ∷ headFault [] (asLines (without coding headLines)) ∷ []) (12 ∷ 4 ∷ [])
+    ∷ row 9 "as request #105 amends it: a URI that differs in any byte from the one asked for is 16"
+    (faults uri ("X-Ouinet-URI: https://example.com/Hello" ∷ "X-Ouinet-URI: https://example.com/hell" ∷ "X-Ouinet-URI: https://example.com/hello/" ∷ "X-Ouinet-URI: x" ∷ [])
+    ++ faultBy (asking "HTTPS://EXAMPLE.COM/HELLO") headLines
+    ++ faultBy (asking "https://example.com/") headLines
+    ++ faultBy (asking "") headLines)
+    (16 ∷ 16 ∷ 16 ∷ 16 ∷ 16 ∷ 16 ∷ 16 ∷ [])
+    ∷ row 9 "and 16 goes after all of 3, 4 and 5, and before 12"
+    (faultBy (asking "x") (headLines ++ (octets "Bad") ∷ [])
+    ++ faultBy (asking "x") (headLines ++ (octets "x-ouinet-uri: x") ∷ [])
+    ++ faultBy (asking "x") (without version headLines)
+    ++ faultBy (asking "x") (put version (octets "X-Ouinet-Version: 5") headLines)
+    ++ faultBy (asking "x") (put status (octets "HTTP/1.1 404 x") headLines)
+    ++ faultBy (asking "x") (without coding headLines)
+    ++ faultBy (asking "") (put uri (octets "X-Ouinet-URI:") headLines)
+    ++ faultBy (asking "x") (without bsigss headLines)
+    ++ faultBy (asking "x") (put sig0s (sig0 key middle (octets "(response-status) (created)") signature) headLines)
+    ++ faultBy noTerms headLines
+    ++ faultBy (asking "x") (put bsigss (bsigs (replicate 42 65 ++ octets "E=") (octets ",algorithm=\"hs2019\",size=5")) headLines))
+    (3 ∷ 3 ∷ 4 ∷ 5 ∷ 4 ∷ 4 ∷ 4 ∷ 4 ∷ 4 ∷ 16 ∷ 16 ∷ [])
+    ∷ row 9 "it ends the reading where the head ends, and asks nothing"
+    (placed (plainReading (asking "https://example.com/Hello") (asLines headLines ++ hello) yes true) ++ placed (plainReading terms (asLines headLines ++ hello) (false ∷ []) true))
+    (653 ∷ 5 ∷ 16 ∷ 653 ∷ 1 ∷ 219 ∷ 0 ∷ 653 ∷ 5 ∷ 10 ∷ [])
+    ∷ row 9 "12 goes last" (faultBy (trusting []) headLines ++ faultBy (trusting []) (without coding headLines)) (12 ∷ 4 ∷ [])
     ∷ row 9 "the injection"
     (faults inject
     ("X-Ouinet-Injection: id=aZ09-_,ts=1584748800" ∷ "X-Ouinet-Injection: id=a.b,ts=0" ∷ "X-Ouinet-Injection: id=a, ts=0" ∷ "X-Ouinet-Injection: id=a,ts=" ∷ "X-Ouinet-Injection: id=a,ts=00" ∷ "X-Ouinet-Injection: id=a,ts=0x" ∷ "X-Ouinet-Injection: id=a,ts=1,x=1" ∷ "X-Ouinet-Injection: ts=0,id=a" ∷ "X-Ouinet-Injection: ID=a,ts=0" ∷ "X-Ouinet-Injection: id=a,ts=1234567890123" ∷ "X-Ouinet-Injection: id=a,ts=123456789012" ∷ []))
@@ -378,10 +415,13 @@ headRules =
     (fault (put inject (octets "X-Ouinet-Injection: id=" ++ replicate 64 97 ++ octets ",ts=0") headLines)
     ++ fault (put inject (octets "X-Ouinet-Injection: id=" ++ replicate 65 97 ++ octets ",ts=0") headLines))
     (0 ∷ 4 ∷ [])
-    ∷ row 10 "spaces and tabs at a value's ends are cut first"
-    (fault (put version (octets "X-Ouinet-Version:\t 4 \t") (put coding (octets "Transfer-Encoding:chunked\t ") (put inject (octets "X-Ouinet-Injection: id=a,ts=0 ") headLines)))
+    ∷ row 10 "spaces and tabs at a value's ends are cut first; of what is asked for nothing is cut"
+    (fault (put uri (octets "X-Ouinet-URI:\t https://example.com/hello\t ") headLines)
+    ++ faultBy (asking "https://example.com/hello ") headLines
+    ++ faultBy (asking " https://example.com/hello ") (put uri (octets "X-Ouinet-URI: https://example.com/hello ") headLines)
+    ++ fault (put version (octets "X-Ouinet-Version:\t 4 \t") (put coding (octets "Transfer-Encoding:chunked\t ") (put inject (octets "X-Ouinet-Injection: id=a,ts=0 ") headLines)))
     ++ fault (put bsigss (bsigs key (octets ",algorithm=\"hs2019\",size=5 \t")) headLines))
-    (0 ∷ 0 ∷ [])
+    (0 ∷ 16 ∷ 16 ∷ 0 ∷ 0 ∷ [])
     -- the key ring, keys and signatures
     ∷ row 11 "both bounds of the span are inside it"
     (ringSays (record { key = replicate 32 0; first = 1_584_748_800; last = 1_584_748_800 } ∷ [])
@@ -398,9 +438,8 @@ headRules =
     ∷ []))
     (0 ∷ 2 ∷ [])
     ∷ row 11 "`ts` picks it, not `created`"
-    (headFault (record { key = replicate 32 0; first = 7; last = 7 } ∷ []) (asLines (put inject (octets "X-Ouinet-Injection: id=a,ts=7") headLines))
-    ∷ headFault (record { key = replicate 32 0; first = 7; last = 7 } ∷ []) (asLines (put sig0s (sig0 key (octets ",algorithm=\"hs2019\",created=7,") names signature) headLines))
-    ∷ [])
+    (faultBy (trusting (record { key = replicate 32 0; first = 7; last = 7 } ∷ [])) (put inject (octets "X-Ouinet-Injection: id=a,ts=7") headLines)
+    ++ faultBy (trusting (record { key = replicate 32 0; first = 7; last = 7 } ∷ [])) (put sig0s (sig0 key (octets ",algorithm=\"hs2019\",created=7,") names signature) headLines))
     (0 ∷ 12 ∷ [])
     ∷ row 12 "a good key unlike Sig0's is 12; spare bits, wrong length or wrong letters are 4"
     (fault (put bsigss (bsigs (replicate 42 65 ++ octets "E=") (octets ",algorithm=\"hs2019\",size=5")) headLines)
@@ -567,8 +606,8 @@ blockRules =
     (lineFault 65_536 true true 4_294_901_760 (signed "10000")
     ∷ lineFault 65_536 true true 4_294_901_761 (signed "10000")
     ∷ lineFault 65_536 true true 4_294_967_296 (signed "0")
-    ∷ placed (reading (rules []) (nextLine show (record { blocks = 858_993_458; hash = replicate 64 1 }) (octets "Hello")) (signed "1") yes false)
-    ++ placed (reading (rules []) (nextLine show (record { blocks = 858_993_458; hash = replicate 64 1 }) (octets "Hello")) (signed "2") yes false))
+    ∷ placed (reading (rules noTerms) (nextLine show (record { blocks = 858_993_458; hash = replicate 64 1 }) (octets "Hello")) (signed "1") yes false)
+    ++ placed (reading (rules noTerms) (nextLine show (record { blocks = 858_993_458; hash = replicate 64 1 }) (octets "Hello")) (signed "2") yes false))
     (0 ∷ 9 ∷ 0 ∷ 99 ∷ 1 ∷ 79 ∷ 7 ∷ 99 ∷ 3 ∷ 4_294_967_290 ∷ 5 ∷ 99 ∷ 5 ∷ 9 ∷ [])
     ∷ row 22 "sizes" (firstLines ("05" ∷ "00000000" ∷ "0000000a" ∷ "" ∷ "G" ∷ "5 " ∷ "\t5" ∷ "+5" ∷ "0x5" ∷ "5;" ∷ "5;x=y" ∷ "5;ouisig=" ∷ "123456789" ∷ "5\r" ∷ []))
     (0 ∷ 0 ∷ 7 ∷ 6 ∷ 6 ∷ 6 ∷ 6 ∷ 6 ∷ 6 ∷ 6 ∷ 6 ∷ 6 ∷ 6 ∷ 6 ∷ [])
@@ -588,7 +627,7 @@ blockRules =
     ∷ [])
     (6 ∷ 6 ∷ 6 ∷ 6 ∷ 6 ∷ 6 ∷ 6 ∷ 6 ∷ 6 ∷ 0 ∷ [])
     ∷ row 23 "document 000's messages: id, offset in bytes, and the chain of hashes, each over the 64 bytes of the one before"
-    (asked (reading (rules []) (firstLine show) (hello ++ signed "5" ++ octets " worl\r\n" ++ signed "2" ++ octets "d!\r\n" ++ signed "0") yes false))
+    (asked (reading (rules noTerms) (firstLine show) (hello ++ signed "5" ++ octets " worl\r\n" ++ signed "2" ++ octets "d!\r\n" ++ signed "0") yes false))
     (octets "abc"
     ++ 0 ∷ 48 ∷ 0 ∷ hexBytes (octets "3615f80c9d293ed7402687f94b22d58e529b8cc7916f8fac7fddf7fbd5af4cf777d3d795a7a00a16bf7e7f3fb9561ee9baae480da9fe7a18769e71886b03f315")
     ++ octets "abc"
@@ -599,7 +638,7 @@ blockRules =
     (body [] true (hello ++ signed "2" ++ octets "d!\r\n")
     ++ body (false ∷ []) true (hello ++ signed "2" ++ octets "d!\r\n")
     ++ body (true ∷ []) true (hello ++ signed "2" ++ octets "d!\r")
-    ++ released (reading (rules []) (firstLine show) (hello ++ signed "2" ++ octets "d!\r\n" ++ signed "0") yes false))
+    ++ released (reading (rules noTerms) (firstLine show) (hello ++ signed "2" ++ octets "d!\r\n" ++ signed "0") yes false))
     ((109 ∷ 1 ∷ 70 ∷ 7 ∷ [])
     ++ (109 ∷ 1 ∷ 70 ∷ 7 ∷ 109 ∷ 5 ∷ 10 ∷ [])
     ++ (109 ∷ 1 ∷ 70 ∷ 7 ∷ 109 ∷ 3 ∷ 0 ∷ 5 ∷ 112 ∷ 5 ∷ 11 ∷ [])
@@ -607,7 +646,7 @@ blockRules =
     ∷ row 25 "an empty body asks nothing" (body [] false (octets "0\r\n\r\n") ++ body [] false (octets "00000000\r\nA: b\r\n\r\n") ++ body [] true (octets "0\r\n"))
     (5 ∷ 4 ∷ 0 ∷ 18 ∷ 4 ∷ 0 ∷ 3 ∷ 5 ∷ 11 ∷ [])
     ∷ row 26 "document 000's example as it prints it, its list with capitals, its trailer with fields; *closed* has the total"
-    (placed (plainReading ring (documentHead ++ documentBody ++ documentTrailer) (true ∷ yes) true))
+    (placed (plainReading terms (documentHead ++ documentBody ++ documentTrailer) (true ∷ yes) true))
     ((705 ∷ 1 ∷ 219 ∷ 0 ∷ 705 ∷ 2 ∷ 200 ∷ 5 ∷ [])
     ++ (814 ∷ 1 ∷ 83 ∷ 0 ∷ 814 ∷ 3 ∷ 0 ∷ 5 ∷ [])
     ++ (920 ∷ 1 ∷ 83 ∷ 0 ∷ 920 ∷ 3 ∷ 5 ∷ 5 ∷ [])
@@ -627,15 +666,15 @@ hashes =
     ∷ []
 
 headTexts-hold : broken 0 headTexts ≡ []
-unfolding headTexts isBase64 letterValue holdsThree holdsTwo holdsOne joinedLetters base64Bytes cut sections readingAt reading isWholeLine carriesSignature isChunkLine chunkSize lineSignature lineRules lineFault chained blockMessage all same lowered sameName among isDoubled isProtected isProtectedDoubled namesOf hasField valueOf valuesOf endsHead isWholeHead headWith headOf statusDigits injectionId injectionTime blockSize blockKey headKey listedNames headSignature signedOf signingString trustedBy textRules trustRules headFault endsWith lines beforeEmpty textLines trimmed fieldScan isFieldLine fieldOf areFieldLines fieldsOf statusScan isStatusLine statusOf numberFrom isDecimal isHexNumber decimalWithin decimal fits firstFrom found firstBroken injectionScan isInjection bsigsScan isBsigs sig0Scan isSig0 splitNames areFields isNameList separated signedFields joinedFields signingLine signingText isWhole showOf headQuestion acceptHead judgeHead judgeFirstLine judgeDataEnd blockQuestion acceptBlock judgeNextLine judgeTrailer judge rules plainReading bigEndian padding padded number parsed schedule round rounds sums compressed hashed unparsed digest roundWords sha512 run past startsWith scan endsTrailer isWholeTrailer isTrailer
+unfolding headTexts isBase64 letterValue holdsThree holdsTwo holdsOne joinedLetters base64Bytes cut sections readingAt reading isWholeLine carriesSignature isChunkLine chunkSize lineSignature lineRules lineFault chained blockMessage all same lowered sameName among isDoubled isProtected isProtectedDoubled namesOf hasField valueOf valuesOf endsHead isWholeHead headWith headOf statusDigits injectionId injectionTime blockSize blockKey headKey listedNames headSignature signedOf signingString trustedBy textRules callerRules headFault endsWith lines beforeEmpty textLines trimmed fieldScan isFieldLine fieldOf areFieldLines fieldsOf statusScan isStatusLine statusOf numberFrom isDecimal isHexNumber decimalWithin decimal fits firstFrom found firstBroken injectionScan isInjection bsigsScan isBsigs sig0Scan isSig0 splitNames areFields isNameList separated signedFields joinedFields signingLine signingText isWhole showOf headQuestion acceptHead judgeHead judgeFirstLine judgeDataEnd blockQuestion acceptBlock judgeNextLine judgeTrailer judge rules plainReading bigEndian padding padded number parsed schedule round rounds sums compressed hashed unparsed digest roundWords sha512 run past startsWith scan endsTrailer isWholeTrailer isTrailer
 headTexts-hold = refl
 
 headRules-hold : broken 0 headRules ≡ []
-unfolding headRules isBase64 letterValue holdsThree holdsTwo holdsOne joinedLetters base64Bytes cut sections readingAt reading isWholeLine carriesSignature isChunkLine chunkSize lineSignature lineRules lineFault chained blockMessage all same lowered sameName among isDoubled isProtected isProtectedDoubled namesOf hasField valueOf valuesOf endsHead isWholeHead headWith headOf statusDigits injectionId injectionTime blockSize blockKey headKey listedNames headSignature signedOf signingString trustedBy textRules trustRules headFault endsWith lines beforeEmpty textLines trimmed fieldScan isFieldLine fieldOf areFieldLines fieldsOf statusScan isStatusLine statusOf numberFrom isDecimal isHexNumber decimalWithin decimal fits firstFrom found firstBroken injectionScan isInjection bsigsScan isBsigs sig0Scan isSig0 splitNames areFields isNameList separated signedFields joinedFields signingLine signingText isWhole showOf headQuestion acceptHead judgeHead judgeFirstLine judgeDataEnd blockQuestion acceptBlock judgeNextLine judgeTrailer judge rules plainReading bigEndian padding padded number parsed schedule round rounds sums compressed hashed unparsed digest roundWords sha512 run past startsWith scan endsTrailer isWholeTrailer isTrailer
+unfolding headRules isBase64 letterValue holdsThree holdsTwo holdsOne joinedLetters base64Bytes cut sections readingAt reading isWholeLine carriesSignature isChunkLine chunkSize lineSignature lineRules lineFault chained blockMessage all same lowered sameName among isDoubled isProtected isProtectedDoubled namesOf hasField valueOf valuesOf endsHead isWholeHead headWith headOf statusDigits injectionId injectionTime blockSize blockKey headKey listedNames headSignature signedOf signingString trustedBy textRules callerRules headFault endsWith lines beforeEmpty textLines trimmed fieldScan isFieldLine fieldOf areFieldLines fieldsOf statusScan isStatusLine statusOf numberFrom isDecimal isHexNumber decimalWithin decimal fits firstFrom found firstBroken injectionScan isInjection bsigsScan isBsigs sig0Scan isSig0 splitNames areFields isNameList separated signedFields joinedFields signingLine signingText isWhole showOf headQuestion acceptHead judgeHead judgeFirstLine judgeDataEnd blockQuestion acceptBlock judgeNextLine judgeTrailer judge rules plainReading bigEndian padding padded number parsed schedule round rounds sums compressed hashed unparsed digest roundWords sha512 run past startsWith scan endsTrailer isWholeTrailer isTrailer
 headRules-hold = refl
 
 blockRules-hold : broken 0 blockRules ≡ []
-unfolding blockRules isBase64 letterValue holdsThree holdsTwo holdsOne joinedLetters base64Bytes cut sections readingAt reading isWholeLine carriesSignature isChunkLine chunkSize lineSignature lineRules lineFault chained blockMessage all same lowered sameName among isDoubled isProtected isProtectedDoubled namesOf hasField valueOf valuesOf endsHead isWholeHead headWith headOf statusDigits injectionId injectionTime blockSize blockKey headKey listedNames headSignature signedOf signingString trustedBy textRules trustRules headFault endsWith lines beforeEmpty textLines trimmed fieldScan isFieldLine fieldOf areFieldLines fieldsOf statusScan isStatusLine statusOf numberFrom isDecimal isHexNumber decimalWithin decimal fits firstFrom found firstBroken injectionScan isInjection bsigsScan isBsigs sig0Scan isSig0 splitNames areFields isNameList separated signedFields joinedFields signingLine signingText isWhole showOf headQuestion acceptHead judgeHead judgeFirstLine judgeDataEnd blockQuestion acceptBlock judgeNextLine judgeTrailer judge rules plainReading bigEndian padding padded number parsed schedule round rounds sums compressed hashed unparsed digest roundWords sha512 run past startsWith scan endsTrailer isWholeTrailer isTrailer
+unfolding blockRules isBase64 letterValue holdsThree holdsTwo holdsOne joinedLetters base64Bytes cut sections readingAt reading isWholeLine carriesSignature isChunkLine chunkSize lineSignature lineRules lineFault chained blockMessage all same lowered sameName among isDoubled isProtected isProtectedDoubled namesOf hasField valueOf valuesOf endsHead isWholeHead headWith headOf statusDigits injectionId injectionTime blockSize blockKey headKey listedNames headSignature signedOf signingString trustedBy textRules callerRules headFault endsWith lines beforeEmpty textLines trimmed fieldScan isFieldLine fieldOf areFieldLines fieldsOf statusScan isStatusLine statusOf numberFrom isDecimal isHexNumber decimalWithin decimal fits firstFrom found firstBroken injectionScan isInjection bsigsScan isBsigs sig0Scan isSig0 splitNames areFields isNameList separated signedFields joinedFields signingLine signingText isWhole showOf headQuestion acceptHead judgeHead judgeFirstLine judgeDataEnd blockQuestion acceptBlock judgeNextLine judgeTrailer judge rules plainReading bigEndian padding padded number parsed schedule round rounds sums compressed hashed unparsed digest roundWords sha512 run past startsWith scan endsTrailer isWholeTrailer isTrailer
 blockRules-hold = refl
 
 hashes-hold : broken 0 hashes ≡ []

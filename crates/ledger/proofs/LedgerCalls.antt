@@ -14,7 +14,7 @@ use Rattle.stream.specs.Blocks.{isWholeLine, carriesSignature, isChunkLine, chu
 use Rattle.stream.specs.Bytes.{all, same, lowered, sameName}
 use Rattle.stream.specs.Events.{Question, Release, LastWord}
 use Rattle.stream.specs.Fields.{among, isDoubled, isProtected, isProtectedDoubled, namesOf, hasField, valueOf, valuesOf}
-use Rattle.stream.specs.Head.{endsHead, isWholeHead, headWith, headOf, statusDigits, injectionId, injectionTime, blockSize, blockKey, headKey, listedNames, headSignature, signedOf, signingString, trustedBy, textRules, trustRules, headFault}
+use Rattle.stream.specs.Head.{endsHead, isWholeHead, headWith, headOf, statusDigits, injectionId, injectionTime, blockSize, blockKey, headKey, listedNames, headSignature, signedOf, signingString, trustedBy, textRules, callerRules, headFault}
 use Rattle.stream.specs.Lines.{endsWith, lines, beforeEmpty, textLines, trimmed, fieldScan, isFieldLine, fieldOf, areFieldLines, fieldsOf, statusScan, isStatusLine, statusOf}
 use Rattle.stream.specs.Numbers.{numberFrom, isDecimal, isHexNumber, decimalWithin, decimal}
 use Rattle.stream.specs.Ring.{fits, firstFrom, found}
@@ -24,7 +24,7 @@ use Rattle.stream.specs.Signing.{separated, signedFields, joinedFields, signing
 use Rattle.stream.specs.Stream.{Context, head, firstLine, trailer, isWhole, showOf, headQuestion, acceptHead, judgeHead, judgeFirstLine, judgeDataEnd, blockQuestion, acceptBlock, judgeNextLine, judgeTrailer, judge, rules}
 use Rattle.stream.specs.Template.{run, past, startsWith, scan}
 use Rattle.stream.specs.Trailer.{endsTrailer, isWholeTrailer, isTrailer}
-use Rattle.ledger.proofs.Ledger.{Row, row, broken, told, show, hello, signed}
+use Rattle.ledger.proofs.Ledger.{Row, row, broken, told, noTerms, show, hello, signed}
 
 -- what calls return: a code for the word, its numbers, and the count taken
 abbrev returned : Reply Question Release LastWord → List ℕ
@@ -37,7 +37,7 @@ returns [] = []
 returns (o ∷ os) = returned (o .0) ++ o .1 ∷ returns os
 
 abbrev calls : Context → List Call → List ℕ
-calls start ks = returns (readCalls (rules []) start ks)
+calls start ks = returns (readCalls (rules noTerms) start ks)
 
 -- each byte as a piece of its own
 abbrev bytewise : List ℕ → List Call
@@ -75,5 +75,5 @@ calledRows =
     ∷ []
 
 pub called-rows-hold : broken 0 calledRows ≡ []
-unfolding calledRows standing readRequest readCall readFrom readCalls isBase64 letterValue holdsThree holdsTwo holdsOne joinedLetters base64Bytes cut sections readingAt reading isWholeLine carriesSignature isChunkLine chunkSize lineSignature lineRules lineFault chained blockMessage all same lowered sameName among isDoubled isProtected isProtectedDoubled namesOf hasField valueOf valuesOf endsHead isWholeHead headWith headOf statusDigits injectionId injectionTime blockSize blockKey headKey listedNames headSignature signedOf signingString trustedBy textRules trustRules headFault endsWith lines beforeEmpty textLines trimmed fieldScan isFieldLine fieldOf areFieldLines fieldsOf statusScan isStatusLine statusOf numberFrom isDecimal isHexNumber decimalWithin decimal fits firstFrom found firstBroken injectionScan isInjection bsigsScan isBsigs sig0Scan isSig0 splitNames areFields isNameList separated signedFields joinedFields signingLine signingText isWhole showOf headQuestion acceptHead judgeHead judgeFirstLine judgeDataEnd blockQuestion acceptBlock judgeNextLine judgeTrailer judge rules bigEndian padding padded number parsed schedule round rounds sums compressed hashed unparsed digest roundWords sha512 run past startsWith scan endsTrailer isWholeTrailer isTrailer
+unfolding calledRows standing readRequest readCall readFrom readCalls isBase64 letterValue holdsThree holdsTwo holdsOne joinedLetters base64Bytes cut sections readingAt reading isWholeLine carriesSignature isChunkLine chunkSize lineSignature lineRules lineFault chained blockMessage all same lowered sameName among isDoubled isProtected isProtectedDoubled namesOf hasField valueOf valuesOf endsHead isWholeHead headWith headOf statusDigits injectionId injectionTime blockSize blockKey headKey listedNames headSignature signedOf signingString trustedBy textRules callerRules headFault endsWith lines beforeEmpty textLines trimmed fieldScan isFieldLine fieldOf areFieldLines fieldsOf statusScan isStatusLine statusOf numberFrom isDecimal isHexNumber decimalWithin decimal fits firstFrom found firstBroken injectionScan isInjection bsigsScan isBsigs sig0Scan isSig0 splitNames areFields isNameList separated signedFields joinedFields signingLine signingText isWhole showOf headQuestion acceptHead judgeHead judgeFirstLine judgeDataEnd blockQuestion acceptBlock judgeNextLine judgeTrailer judge rules bigEndian padding padded number parsed schedule round rounds sums compressed hashed unparsed digest roundWords sha512 run past startsWith scan endsTrailer isWholeTrailer isTrailer
 called-rows-hold = refl

@@ -119,13 +119,13 @@ count-fits ks = by (leb (length ks) ringLimit) refl
     by true e = count-few ks (leb-true (length ks) ringLimit e) ∙ sym e
     by false e = count-over ks (leb-false (length ks) ringLimit e) ∙ sym e
 
-feed-at : (ks : List KeyRecord) (d : Configuration) (piece : List ℕ) (b : Bool) → leb (length ks) ringLimit ≡ b → feedOf (keysOf ks) d piece ≡ lentFeedOf ks d piece
+feed-at : (ks : List KeyRecord) (uri : List ℕ) (d : Configuration) (piece : List ℕ) (b : Bool) → leb (length ks) ringLimit ≡ b → feedOf (keysOf ks) uri d piece ≡ lentFeedOf ks uri d piece
 unfolding feedOf lentFeedOf
-feed-at ks d piece true e =
+feed-at ks uri d piece true e =
     let few = leb-true (length ks) ringLimit e in
     rw (e, count-few ks few, ring-lent ks few)
-feed-at ks d piece false e = rw (e, count-over ks (leb-false (length ks) ringLimit e)) (refused-both (fits d) _ _ _)
+feed-at ks uri d piece false e = rw (e, count-over ks (leb-false (length ks) ringLimit e)) (refused-both (fits d) _ _ _)
 
 -- the reader with the ring by value feeds as with the lent records
-pub feed-lent : (ks : List KeyRecord) (d : Configuration) (piece : List ℕ) → feedOf (keysOf ks) d piece ≡ lentFeedOf ks d piece
-feed-lent ks d piece = feed-at ks d piece (leb (length ks) ringLimit) refl
+pub feed-lent : (ks : List KeyRecord) (uri : List ℕ) (d : Configuration) (piece : List ℕ) → feedOf (keysOf ks) uri d piece ≡ lentFeedOf ks uri d piece
+feed-lent ks uri d piece = feed-at ks uri d piece (leb (length ks) ringLimit) refl

@@ -9,17 +9,22 @@ use Rattle.ring.specs.Keys.{trustedOf, keysWith, noRecord}
 use Rattle.ring.specs.declared.KeyRecord.{KeyRecord}
 use Rattle.ring.specs.declared.KeyRing.{KeyRing}
 use Rattle.stream.specs.Limits.{ringLimit}
+use Rattle.stream.specs.Terms.{Terms}
 use Rattle.state.specs.Configuration.{Configuration}
 use Rattle.calls.specs.Response.{Response, unchanged, fits, isReading, recalled}
 use Rattle.reader.specs.Feed.{takenFrom}
 
 -- ---- a feed
 
--- 2 where a buffer is short or "a lent ring has over 16 records"; then 1; else the piece is taken with the ring of these records
-unfoldable pub lentFeedOf : List KeyRecord → Configuration → List ℕ → Response
-lentFeedOf records d piece =
+-- the caller's terms, by the records as they are lent
+abbrev pub lentTerms : List KeyRecord → List ℕ → Terms
+lentTerms records uri = record { ring = map trustedOf records; uri = uri }
+
+-- 2 where a buffer is short or "a lent ring has over 16 records"; then 1; else the piece is taken on these terms
+unfoldable pub lentFeedOf : List KeyRecord → List ℕ → Configuration → List ℕ → Response
+lentFeedOf records uri d piece =
     pick (fits d && leb (length records) ringLimit)
-    (pick (isReading (d .reader .phase)) (takenFrom (map trustedOf records) (recalled d) piece) (unchanged 1 d))
+    (pick (isReading (d .reader .phase)) (takenFrom (lentTerms records uri) (recalled d) piece) (unchanged 1 d))
     (unchanged 2 d)
 
 -- ---- the ring by value

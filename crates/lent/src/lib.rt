@@ -61,9 +61,10 @@ pub fn feed(
     block: &mut [u8],
     question: &mut [u8],
     records: &[KeyRecord],
+    uri: &[u8],
     piece: &[u8],
 ) -> Outcome
-    ensures { λ o. ⌜ made o (now (head .exit)) (now (block .exit)) (now (question .exit)) ≡ lentFeedOf (now (records .entry)) (configuration r (now (head .entry)) (now (block .entry)) (now (question .entry))) (now (piece .entry)) ⌝ }
+    ensures { λ o. ⌜ made o (now (head .exit)) (now (block .exit)) (now (question .exit)) ≡ lentFeedOf (now (records .entry)) (now (uri .entry)) (configuration r (now (head .entry)) (now (block .entry)) (now (question .entry))) (now (piece .entry)) ⌝ }
 {
-    reader::feed(r, head, block, question, ring_of(records), piece)
+    reader::feed(r, head, block, question, ring_of(records), uri, piece)
 }

@@ -3,7 +3,7 @@ use crate::filling::fill;
 use crate::messages::unread;
 use crate::options;
 
-// STREAM RING ANSWERS [CUTS [BODY]]
+// STREAM RING ANSWERS [CUTS [BODY]]; the options say which argument names the URI's file.
 pub const STREAM: usize = 1;
 
 pub const RING: usize = 2;

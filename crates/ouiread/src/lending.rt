@@ -29,10 +29,11 @@ pub fn feed(
     question: &mut [u8],
     records: [KeyRecord; RING_LIMIT],
     count: usize,
+    uri: &[u8],
     piece: &[u8],
 ) -> Outcome
-    ensures { λ o. ⌜ made o (now (head .exit)) (now (block .exit)) (now (question .exit)) ≡ lentFeedOf (take (min count ringLimit) records) (configuration r (now (head .entry)) (now (block .entry)) (now (question .entry))) (now (piece .entry)) ⌝ }
+    ensures { λ o. ⌜ made o (now (head .exit)) (now (block .exit)) (now (question .exit)) ≡ lentFeedOf (take (min count ringLimit) records) (now (uri .entry)) (configuration r (now (head .entry)) (now (block .entry)) (now (question .entry))) (now (piece .entry)) ⌝ }
 {
     let n = within(count);
-    lent::feed(r, head, block, question, &records[..n], piece)
+    lent::feed(r, head, block, question, &records[..n], uri, piece)
 }

@@ -1,6 +1,7 @@
-// `ouiread STREAM RING ANSWERS [CUTS [BODY]] [--tally] [--where]` reads a signature stream in pieces and writes a line for each event; where
-// it is asked for, a refusal's line says where the text went wrong, and a last line has the tally. A file that is missing or malformed gives one
-// line on standard error and no event. A program of this language has no exit status: the lines tell.
+// `ouiread STREAM RING ANSWERS [CUTS [BODY]] --uri FILE [--tally] [--where]` reads a signature stream in pieces and writes a line for each event;
+// the bytes of the URI's file are the URI that was asked for. Where it is asked for, a refusal's line says where the text went wrong, and a last
+// line has the tally. A head with another URI gives one line on standard error too, with both. A file that is missing or malformed gives one line
+// on standard error and no event. A program of this language has no exit status: the lines tell.
 mod answers; // the letters y and n, read as they are needed
 mod cuts; // the lengths of the pieces
 mod files; // the files by the number of their argument
@@ -9,6 +10,7 @@ mod lending; // the ring as a lent table
 mod lines; // lines and their words in a text
 mod messages; // what is written
 mod options; // what is asked for after the files
+mod other_show; // what is said of a head with another URI
 mod records; // the key ring's records
 mod sitting; // events, and what they lead to
 mod streaming; // the stream, piece by piece
@@ -24,14 +26,30 @@ use files::STREAM;
 use ring::KeyRing;
 use sitting::Sitting;
 
-// Lent as arrays, the buffers need no count of their bytes in the proofs. The ring's text is read into the buffer for pieces,
-// which is free until the stream is opened.
-fn run(
+// Lent as arrays, the buffers need no count of their bytes in the proofs. A head has at most 8,192 bytes, and its URI fewer: a file that fills
+// the URI's buffer, or is longer, is no head's URI. Its beginning in the buffer is none either, and gives the same refusal.
+fn run(uri: &mut [u8; 8192]) {
+    let Loaded::Text(n) = files::load(options::read().uri, uri) else {
+        return;
+    };
+    with_ring(
+        &mut [0; 8192],
+        &mut [0; 65536],
+        &mut [0; 8192],
+        &mut [0; 65536],
+        &mut [0; 65536],
+        places::part(uri, 0, n),
+    );
+}
+
+// The ring's text is read into the buffer for pieces, which is free until the stream is opened.
+fn with_ring(
     head: &mut [u8; 8192],
     block: &mut [u8; 65536],
     question: &mut [u8; 8192],
     piece: &mut [u8; 65536],
     text: &mut [u8; 65536],
+    uri: &[u8],
 ) {
     let Loaded::Text(n) = files::load(RING, piece) else {
         return;
@@ -50,7 +68,7 @@ fn run(
     if answers.fd < 0 {
         return;
     }
-    with_cuts(head, block, question, piece, text, ring, answers);
+    with_cuts(head, block, question, piece, text, ring, uri, answers);
 }
 
 fn with_cuts(
@@ -60,10 +78,11 @@ fn with_cuts(
     piece: &mut [u8; 65536],
     text: &mut [u8; 65536],
     ring: KeyRing,
+    uri: &[u8],
     answers: Answers,
 ) {
     if options::read().files <= CUTS {
-        with_stream(head, block, question, piece, b"65536", ring, answers);
+        with_stream(head, block, question, piece, b"65536", ring, uri, answers);
         return;
     }
     let Loaded::Text(n) = files::load(CUTS, text) else {
@@ -85,6 +104,7 @@ fn with_cuts(
         piece,
         places::part(text, 0, n),
         ring,
+        uri,
         answers,
     );
 }
@@ -96,6 +116,7 @@ fn with_stream(
     piece: &mut [u8; 65536],
     cuts: &[u8],
     ring: KeyRing,
+    uri: &[u8],
     answers: Answers,
 ) {
     let stream = files::open(STREAM);
@@ -114,7 +135,9 @@ fn with_stream(
         lost: false,
         tally: tally::zero(),
     };
-    let done = streaming::read_all(s, head, block, question, piece, cuts, ring, stream);
+    let done = streaming::read_all(s, head, block, question, piece, cuts, ring, uri, stream);
+    let after = done.reader;
+    other_show::tell(after, head, uri);
     tell_tally(done);
 }
 
@@ -135,11 +158,5 @@ fn main() {
         messages::usage();
         return;
     }
-    run(
-        &mut [0; 8192],
-        &mut [0; 65536],
-        &mut [0; 8192],
-        &mut [0; 65536],
-        &mut [0; 65536],
-    );
+    run(&mut [0; 8192]);
 }

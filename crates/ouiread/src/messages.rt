@@ -5,12 +5,12 @@ use libc::STDOUT_FILENO;
 use refusals::Refusal;
 use tally::Tally;
 
-fn err(text: &[u8]) {
+pub fn err(text: &[u8]) {
     io::write_all(STDERR_FILENO, text);
 }
 
 pub fn usage() {
-    err(b"usage: ouiread STREAM RING ANSWERS [CUTS [BODY]] [--tally] [--where]\n");
+    err(b"usage: ouiread STREAM RING ANSWERS [CUTS [BODY]] --uri FILE [--tally] [--where]\n");
 }
 
 // What is wrong on a line of the file that argument i names.

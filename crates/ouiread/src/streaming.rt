@@ -47,12 +47,13 @@ fn feed_rest(
     block: &mut [u8; 65536],
     question: &mut [u8; 8192],
     ring: KeyRing,
+    uri: &[u8],
     rest: &[u8],
 ) -> Fed {
     let r = s.reader;
     let records = ring.records;
     let count = ring.count;
-    let o = lending::feed(r, head, block, question, records, count, rest);
+    let o = lending::feed(r, head, block, question, records, count, uri, rest);
     told(s, head, block, question, o)
 }
 
@@ -63,6 +64,7 @@ fn feed_piece(
     block: &mut [u8; 65536],
     question: &mut [u8; 8192],
     ring: KeyRing,
+    uri: &[u8],
     piece: &[u8],
 ) -> Sitting {
     let mut sitting = s;
@@ -71,7 +73,7 @@ fn feed_piece(
     while turns > 0 {
         turns -= 1;
         let rest = places::part(piece, at, piece.len());
-        let fed = feed_rest(sitting, head, block, question, ring, rest);
+        let fed = feed_rest(sitting, head, block, question, ring, uri, rest);
         sitting = fed.sitting;
         if !fed.again {
             return sitting;
@@ -116,6 +118,7 @@ pub fn read_all(
     piece: &mut [u8; 65536],
     cuts: &[u8],
     ring: KeyRing,
+    uri: &[u8],
     stream: i32,
 ) -> Sitting {
     let mut sitting = s;
@@ -126,14 +129,8 @@ pub fn read_all(
         let cut = cut_at(cuts, place);
         place = cut.next;
         let filled = read_piece(stream, piece, cut.size);
-        sitting = feed_piece(
-            sitting,
-            head,
-            block,
-            question,
-            ring,
-            places::part(piece, 0, filled.count),
-        );
+        let bytes = places::part(piece, 0, filled.count);
+        sitting = feed_piece(sitting, head, block, question, ring, uri, bytes);
         if sitting.stopped {
             return sitting;
         }

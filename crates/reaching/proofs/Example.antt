@@ -7,7 +7,7 @@ use Prim.Native.Nat.{ℕ}
 use Rattle.sections.specs.Calls.{feed, answer, end, Call, call}
 use Rattle.sections.specs.Machine.{step, fed, respond, turn}
 use Rattle.sections.proofs.Toy.{line, lastIs, says, toy, sample}
-use Rattle.stream.proofs.Example.{ring}
+use Rattle.stream.proofs.Example.{terms}
 use Rattle.exactness.proofs.Example.{example, example-honest}
 use Rattle.reaching.specs.Caller.{handOver, requestsOver}
 use Rattle.reaching.specs.Driver.{wellLent, callsOver}
@@ -45,5 +45,5 @@ toy-ended = refl
 
 -- ---- an honest show
 
-pub example-reached : (lengths : List ℕ) → ComesOut ring example (showCalls ring lengths [] example) (showOuts ring lengths [] example)
-example-reached lengths = honest-reached ring example lengths [] example-honest
+pub example-reached : (lengths : List ℕ) → ComesOut terms example (showCalls terms lengths [] example) (showOuts terms lengths [] example)
+example-reached lengths = honest-reached terms example lengths [] example-honest

@@ -12,8 +12,8 @@ use Rattle.sections.specs.Reading.{last, Log}
 use Rattle.sections.specs.Resuming.{events}
 use Rattle.sections.proofs.Invariant.{standing-snoc}
 use Rattle.stream.specs.Events.{Question, Release, LastWord, closed}
-use Rattle.stream.specs.Ring.{Ring}
 use Rattle.stream.specs.Stream.{head, rules, plainReading}
+use Rattle.stream.specs.Terms.{Terms}
 use Rattle.exactness.specs.Beginning.{Beginning, opening, onward, blocks, questions}
 use Rattle.exactness.specs.ShowEvents.{showEvents}
 use Rattle.exactness.specs.Shows.{WholeShow, bodyOf, streamOf, Honest, beginningOf}
@@ -34,49 +34,49 @@ closing-questions closes = refl
 closing-questions (tells k) = closing-questions k
 closing-questions (asks k) = ap (λ (m : ℕ). suc m) (closing-questions k)
 
-module _ (ring : Ring) where
+module _ (terms : Terms) where
   -- ---- the events of a show close at its end
 
   log-closing : {end n : ℕ} (w : Beginning) (log : Log Question Release LastWord) → EndsAt end n log
-      → EndsAt end (questions w + n) (logOf ring w ++ log)
+      → EndsAt end (questions w + n) (logOf (terms .ring) w ++ log)
   unfolding logOf blocks
   log-closing {n} (opening h l) log k = let e : 1 + n ≡ suc n = omega arith in rw e (asks (tells k))
   log-closing {n} (onward w b l) log k =
       let e : suc (suc (blocks w)) + n ≡ suc (blocks w) + suc n = omega arith in
-      rw (e, append-assoc (logOf ring w)) (log-closing w _ (asks (tells k)))
+      rw (e, append-assoc (logOf (terms .ring) w)) (log-closing w _ (asks (tells k)))
 
   -- the events of a show: its last word is *closed*, with the total, at the place of all its bytes
-  show-events : (s : WholeShow) → Honest ring s
-      → logOf ring (beginningOf s) ++ (length (streamOf s), last (closed (length (bodyOf (s .chunks))))) ∷ [] ≡ showEvents ring s
-  show-events s h = rw (← show-log ring s h, show-written s, show-body s)
+  show-events : (s : WholeShow) → Honest terms s
+      → logOf (terms .ring) (beginningOf s) ++ (length (streamOf s), last (closed (length (bodyOf (s .chunks))))) ∷ [] ≡ showEvents (terms .ring) s
+  show-events s h = rw (← show-log terms s h, show-written s, show-body s)
 
-  show-closing : (s : WholeShow) → Honest ring s → EndsAt (length (streamOf s)) (suc (length (s .chunks))) (showEvents ring s)
+  show-closing : (s : WholeShow) → Honest terms s → EndsAt (length (streamOf s)) (suc (length (s .chunks))) (showEvents (terms .ring) s)
   show-closing s h =
       let e : questions (beginningOf s) + 0 ≡ suc (length (s .chunks)) = omega (arith, show-blocks s) in
       rw (← show-events s h, ← e) (log-closing (beginningOf s) _ closes)
 
-  show-read : (s : WholeShow) (others : List Bool) → Honest ring s
-      → plainReading ring (streamOf s) (replicate (suc (length (s .chunks))) true ++ others) true ≡ showEvents ring s
-  show-read s others h = rw (append-nil (streamOf s)) at (show-complete ring s [] others true h)
+  show-read : (s : WholeShow) (others : List Bool) → Honest terms s
+      → plainReading terms (streamOf s) (replicate (suc (length (s .chunks))) true ++ others) true ≡ showEvents (terms .ring) s
+  show-read s others h = rw (append-nil (streamOf s)) at (show-complete terms s [] others true h)
 
   -- EVERY HONEST SHOW IS REACHED, however its stream is cut, and whatever answers would follow.
-  pub honest-reached : (s : WholeShow) (lengths : List ℕ) (others : List Bool) → Honest ring s
-      → ComesOut ring s (showCalls ring lengths others s) (showOuts ring lengths others s)
+  pub honest-reached : (s : WholeShow) (lengths : List ℕ) (others : List Bool) → Honest terms s
+      → ComesOut terms s (showCalls terms lengths others s) (showOuts terms lengths others s)
   unfolding plainReading
   honest-reached s lengths others h =
       let n = suc (length (s .chunks)) in
       let yeses : List Bool = replicate n true in
-      let f : Finishes (rules ring) head (streamOf s) (yeses ++ others) (showCalls ring lengths others s) (showOuts ring lengths others s) =
-      caller-finishes (rules ring) head lengths (yeses ++ others) (streamOf s) in
-      let k : EndsAt (length (streamOf s)) n (plainReading ring (streamOf s) (yeses ++ others) true) = rw (show-read s others h) (show-closing s h) in
-      let l : events (showOuts ring lengths others s) ≡ logOf ring (beginningOf s) ++ (length (streamOf s), last (closed (length (bodyOf (s .chunks))))) ∷ [] =
+      let f : Finishes (rules terms) head (streamOf s) (yeses ++ others) (showCalls terms lengths others s) (showOuts terms lengths others s) =
+      caller-finishes (rules terms) head lengths (yeses ++ others) (streamOf s) in
+      let k : EndsAt (length (streamOf s)) n (plainReading terms (streamOf s) (yeses ++ others) true) = rw (show-read s others h) (show-closing s h) in
+      let l : events (showOuts terms lengths others s) ≡ logOf (terms .ring) (beginningOf s) ++ (length (streamOf s), last (closed (length (bodyOf (s .chunks))))) ∷ [] =
       f .all-events ∙ show-read s others h ∙ sym (show-events s h) in
       record {
         resumes = f .resumes;
-        took = caller-takes-all (rules ring) head lengths (yeses ++ others) (streamOf s) n k;
+        took = caller-takes-all (rules terms) head lengths (yeses ++ others) (streamOf s) n k;
         yeses = f .answered ∙ rw (closing-questions k) (first-of n true others);
         all-events = f .all-events ∙ show-read s others h;
-        before-closed = logOf ring (beginningOf s);
+        before-closed = logOf (terms .ring) (beginningOf s);
         then-closed = l;
-        is-over = rw l (standing-snoc (logOf ring (beginningOf s)) (length (streamOf s)) (last (closed (length (bodyOf (s .chunks))))));
+        is-over = rw l (standing-snoc (logOf (terms .ring) (beginningOf s)) (length (streamOf s)) (last (closed (length (bodyOf (s .chunks))))));
       }

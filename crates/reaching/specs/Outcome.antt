@@ -9,20 +9,20 @@ use Rattle.sections.specs.Calls.{Call, Out, over, standing}
 use Rattle.sections.specs.Machine.{runCalls}
 use Rattle.sections.specs.Resuming.{Resumes, events, bytesTaken, answersHeard}
 use Rattle.stream.specs.Events.{Question, Release, LastWord, closed}
-use Rattle.stream.specs.Ring.{Ring}
 use Rattle.stream.specs.Stream.{head, rules}
+use Rattle.stream.specs.Terms.{Terms}
 use Rattle.exactness.specs.ShowEvents.{showEvents}
 use Rattle.exactness.specs.Shows.{WholeShow, bodyOf, streamOf}
 use Rattle.reaching.specs.Driver.{callsOver}
 
-module _ (ring : Ring) where
+module _ (terms : Terms) where
   -- the caller's calls, for any lengths of the pieces, with a yes for the head and for each block, and any answers more; and what
   -- they return
   abbrev pub showCalls : List ℕ → List Bool → WholeShow → List Call
-  showCalls lengths others s = callsOver (rules ring) head lengths (replicate (suc (length (s .chunks))) true ++ others) (streamOf s)
+  showCalls lengths others s = callsOver (rules terms) head lengths (replicate (suc (length (s .chunks))) true ++ others) (streamOf s)
 
   abbrev pub showOuts : List ℕ → List Bool → WholeShow → List (Out Question Release LastWord)
-  showOuts lengths others s = runCalls (rules ring) head (showCalls lengths others s)
+  showOuts lengths others s = runCalls (rules terms) head (showCalls lengths others s)
 
   pub record ComesOut (s : WholeShow) (ks : List Call) (os : List (Out Question Release LastWord)) : Type 0 where
     -- each piece begins at the first byte not taken
@@ -32,7 +32,7 @@ module _ (ring : Ring) where
     -- a yes is heard for the head and for each block, and no other answer
     pub yeses : answersHeard ks os ≡ replicate (suc (length (s .chunks))) true
     -- the events, with their places, are those computed from the show
-    pub all-events : events os ≡ showEvents ring s
+    pub all-events : events os ≡ showEvents (terms .ring) s
     -- the last of them, at the place of all bytes, is *closed* with the length of the body; it is a last word, and the run is over
     pub before-closed : Log Question Release LastWord
     pub then-closed : events os ≡ before-closed ++ (length (streamOf s), last (closed (length (bodyOf (s .chunks))))) ∷ []

@@ -5,10 +5,10 @@ use Prim.Native.Nat.{ℕ}
 use lib.Dec.{leb}
 use Rattle.octets.specs.Choice.{pick}
 use Rattle.refusals.specs.Refusals.{plain}
-use Rattle.ring.specs.Keys.{ringOf}
+use Rattle.ring.specs.Keys.{termsOf}
 use Rattle.ring.specs.declared.KeyRing.{KeyRing}
 use Rattle.stream.specs.Limits.{ringLimit}
-use Rattle.stream.specs.Ring.{Ring}
+use Rattle.stream.specs.Terms.{Terms}
 use Rattle.state.specs.Configuration.{Configuration, Next, stop, noSignature}
 use Rattle.state.specs.Run.{Fed, more, event, runOf}
 use Rattle.state.specs.declared.phase.Phase.{Phase}
@@ -22,33 +22,33 @@ use Rattle.body_steps.specs.Trailer.{pushTrailer}
 use Rattle.calls.specs.Response.{Response, response, telling, unchanged, fits, isReading, recalled}
 
 -- one byte, by the phase; a feed pushes none where a question is open or the last word is said
-unfoldable pub pushAt : Ring → Phase → Configuration → ℕ → Next
-pushAt ring (P.Head have) d x = pushHead ring d have x
-pushAt ring (P.HeadAsked n) d x = stop (W.Refused (plain 1)) noSignature d
-pushAt ring (P.FirstLine have) d x = pushFirstLine d have x
-pushAt ring (P.Data have size) d x = pushData d have size x
-pushAt ring (P.DataEnd have size) d x = pushDataEnd d have size x
-pushAt ring (P.NextLine have size) d x = pushNextLine d have size x
-pushAt ring (P.BlockAsked size next) d x = stop (W.Refused (plain 1)) noSignature d
-pushAt ring (P.Trailer have total) d x = pushTrailer d have total x
-pushAt ring (P.Closed total) d x = stop (W.Refused (plain 1)) noSignature d
-pushAt ring (P.Refused n) d x = stop (W.Refused (plain 1)) noSignature d
+unfoldable pub pushAt : Terms → Phase → Configuration → ℕ → Next
+pushAt terms (P.Head have) d x = pushHead terms d have x
+pushAt terms (P.HeadAsked n) d x = stop (W.Refused (plain 1)) noSignature d
+pushAt terms (P.FirstLine have) d x = pushFirstLine d have x
+pushAt terms (P.Data have size) d x = pushData d have size x
+pushAt terms (P.DataEnd have size) d x = pushDataEnd d have size x
+pushAt terms (P.NextLine have size) d x = pushNextLine d have size x
+pushAt terms (P.BlockAsked size next) d x = stop (W.Refused (plain 1)) noSignature d
+pushAt terms (P.Trailer have total) d x = pushTrailer d have total x
+pushAt terms (P.Closed total) d x = stop (W.Refused (plain 1)) noSignature d
+pushAt terms (P.Refused n) d x = stop (W.Refused (plain 1)) noSignature d
 
-abbrev pub pushByte : Ring → Configuration → ℕ → Next
-pushByte ring d x = pushAt ring (d .reader .phase) d x
+abbrev pub pushByte : Terms → Configuration → ℕ → Next
+pushByte terms d x = pushAt terms (d .reader .phase) d x
 
 -- "takes bytes up to the first event, or all of them"; "with no event the word is more"
 abbrev pub fed : Fed → Response
 fed (more taken d) = telling W.More taken d
 fed (event w signature taken d) = response w taken signature d
 
-unfoldable pub takenFrom : Ring → Configuration → List ℕ → Response
-takenFrom ring d piece = fed (runOf (pushByte ring) d 0 piece)
+unfoldable pub takenFrom : Terms → Configuration → List ℕ → Response
+takenFrom terms d piece = fed (runOf (pushByte terms) d 0 piece)
 
 -- 2 where "a hold is shorter" or "a lent ring has over 16 records"; then 1 for a "feed with a question open" or "any call after a
 -- final event"
-unfoldable pub feedOf : KeyRing → Configuration → List ℕ → Response
-feedOf ring d piece =
+unfoldable pub feedOf : KeyRing → List ℕ → Configuration → List ℕ → Response
+feedOf ring uri d piece =
     pick (fits d && leb (ring .count) ringLimit)
-    (pick (isReading (d .reader .phase)) (takenFrom (ringOf ring) (recalled d) piece) (unchanged 1 d))
+    (pick (isReading (d .reader .phase)) (takenFrom (termsOf ring uri) (recalled d) piece) (unchanged 1 d))
     (unchanged 2 d)

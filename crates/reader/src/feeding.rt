@@ -14,7 +14,7 @@ use state::Stepped;
 use state::Word;
 ghost use mathlib.Core.Path.{_≡_};
 ghost use Rattle.refusals.specs.Refusals.{plain};
-ghost use Rattle.ring.specs.Keys.{ringOf};
+ghost use Rattle.ring.specs.Keys.{termsOf};
 ghost use Rattle.state.specs.Configuration.{configuration, nextOf, saying};
 ghost use Rattle.calls.specs.Response.{made};
 ghost use Rattle.reader.specs.Feed.{pushByte, takenFrom, feedOf};
@@ -33,13 +33,14 @@ fn push(
     block: &mut [u8],
     question: &mut [u8],
     ring: KeyRing,
+    uri: &[u8],
     x: u8,
 ) -> Stepped
-    ensures { λ s. ⌜ nextOf s (now (head .exit)) (now (block .exit)) (now (question .exit)) ≡ pushByte (ringOf ring) (configuration r (now (head .entry)) (now (block .entry)) (now (question .entry))) x ⌝ }
+    ensures { λ s. ⌜ nextOf s (now (head .exit)) (now (block .exit)) (now (question .exit)) ≡ pushByte (termsOf ring (now (uri .entry))) (configuration r (now (head .entry)) (now (block .entry)) (now (question .entry))) x ⌝ }
 {
     let phase = r.phase;
     match phase {
-        Phase::Head(have) => head_steps::push_head(r, head, question, ring, have, x),
+        Phase::Head(have) => head_steps::push_head(r, head, question, ring, uri, have, x),
         Phase::HeadAsked(_) => not_due(r),
         Phase::FirstLine(have) => line_steps::push_first_line(r, have, x),
         Phase::Data { have, size } => body_steps::push_data(r, block, have, size, x),
@@ -67,9 +68,10 @@ fn take(
     block: &mut [u8],
     question: &mut [u8],
     ring: KeyRing,
+    uri: &[u8],
     piece: &[u8],
 ) -> Outcome
-    ensures { λ o. ⌜ made o (now (head .exit)) (now (block .exit)) (now (question .exit)) ≡ takenFrom (ringOf ring) (configuration r (now (head .entry)) (now (block .entry)) (now (question .entry))) (now (piece .entry)) ⌝ }
+    ensures { λ o. ⌜ made o (now (head .exit)) (now (block .exit)) (now (question .exit)) ≡ takenFrom (termsOf ring (now (uri .entry))) (configuration r (now (head .entry)) (now (block .entry)) (now (question .entry))) (now (piece .entry)) ⌝ }
 {
     let mut state = r;
     let mut taken = 0;
@@ -82,7 +84,7 @@ fn take(
             return told(Word::More, taken, reader);
         }
         let x = piece[taken];
-        let stepped = push(reader, head, block, question, ring, x);
+        let stepped = push(reader, head, block, question, ring, uri, x);
         taken += 1;
         let word = stepped.word;
         state = stepped.reader;
@@ -100,9 +102,10 @@ pub fn feed(
     block: &mut [u8],
     question: &mut [u8],
     ring: KeyRing,
+    uri: &[u8],
     piece: &[u8],
 ) -> Outcome
-    ensures { λ o. ⌜ made o (now (head .exit)) (now (block .exit)) (now (question .exit)) ≡ feedOf ring (configuration r (now (head .entry)) (now (block .entry)) (now (question .entry))) (now (piece .entry)) ⌝ }
+    ensures { λ o. ⌜ made o (now (head .exit)) (now (block .exit)) (now (question .exit)) ≡ feedOf ring (now (uri .entry)) (configuration r (now (head .entry)) (now (block .entry)) (now (question .entry))) (now (piece .entry)) ⌝ }
 {
     if !are_roomy(head.len(), block.len(), question.len()) {
         return unchanged(r, 2);
@@ -114,5 +117,5 @@ pub fn feed(
     if !is_reading(phase) {
         return unchanged(r, 1);
     }
-    take(recalled(r), head, block, question, ring, piece)
+    take(recalled(r), head, block, question, ring, uri, piece)
 }

@@ -41,8 +41,8 @@ module _ (s t : List ℕ) (c : Response) (o : Outcome) (s' h' b' q' : List ℕ) 
 
 -- the reader and the ring as they were read
 module _ (s h b q : List ℕ) (r : Reader) (e : r ≡ decoded s) (c : Response) where
-  pub fed-in : (k : KeyRing) (ring piece : List ℕ) → k ≡ keysIn ring → c ≡ feedFront k (configuration r h b q) piece → c ≡ feedIn s h b q ring piece
-  fed-in k ring piece f g = g ∙ (rw (e, f))
+  pub fed-in : (k : KeyRing) (ring uri piece : List ℕ) → k ≡ keysIn ring → c ≡ feedFront k uri (configuration r h b q) piece → c ≡ feedIn s h b q ring uri piece
+  fed-in k ring uri piece f g = g ∙ (rw (e, f))
 
   pub answered-in : (good : Bool) → c ≡ answerFront (configuration r h b q) good → c ≡ answerIn s h b q good
   answered-in good g = g ∙ (rw e)

@@ -42,8 +42,8 @@ called s h b q t c = pick (areLong (length s) (length t)) (answered s t c) (made
 abbrev pub configurationIn : List ℕ → List ℕ → List ℕ → List ℕ → Configuration
 configurationIn s h b q = configuration (decoded s) h b q
 
-abbrev pub feedIn : List ℕ → List ℕ → List ℕ → List ℕ → List ℕ → List ℕ → Response
-feedIn s h b q ring piece = feedFront (keysIn ring) (configurationIn s h b q) piece
+abbrev pub feedIn : List ℕ → List ℕ → List ℕ → List ℕ → List ℕ → List ℕ → List ℕ → Response
+feedIn s h b q ring uri piece = feedFront (keysIn ring) uri (configurationIn s h b q) piece
 
 abbrev pub isYes : ℕ → Bool
 isYes n = not (eqb n 0)

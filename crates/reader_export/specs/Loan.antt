@@ -10,21 +10,22 @@ use Rattle.layout.specs.State.{decoded}
 use Rattle.results.specs.Written.{Answer, areLong}
 use Rattle.reader_export.specs.Export.{called, feedIn, answerIn, endIn}
 
--- buffers of any lengths, with any bytes in them; the ring for a feed alone
+-- buffers of any lengths, with any bytes in them; the ring and the asked URI for a feed alone
 pub record Loan : Type 0 where
   pub state : List ℕ
   pub head : List ℕ
   pub block : List ℕ
   pub question : List ℕ
   pub ring : List ℕ
+  pub uri : List ℕ
   pub result : List ℕ
 
-abbrev pub loan : List ℕ → List ℕ → List ℕ → List ℕ → List ℕ → List ℕ → Loan
-loan s h b q ring t = record { state = s; head = h; block = b; question = q; ring = ring; result = t }
+abbrev pub loan : List ℕ → List ℕ → List ℕ → List ℕ → List ℕ → List ℕ → List ℕ → Loan
+loan s h b q ring uri t = record { state = s; head = h; block = b; question = q; ring = ring; uri = uri; result = t }
 
 -- the reader's call, by the exported function of each request
 abbrev pub callIn : Loan → Request → Response
-callIn l (feed piece) = feedIn (l .state) (l .head) (l .block) (l .question) (l .ring) piece
+callIn l (feed piece) = feedIn (l .state) (l .head) (l .block) (l .question) (l .ring) (l .uri) piece
 callIn l (answer good) = answerIn (l .state) (l .head) (l .block) (l .question) good
 callIn l end = endIn (l .state) (l .head) (l .block) (l .question)
 

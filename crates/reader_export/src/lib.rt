@@ -39,11 +39,12 @@ pub extern "C" fn ouinet_reader_feed(
     block: &mut [u8],
     question: &mut [u8],
     ring: &[u8],
+    uri: &[u8],
     piece: &[u8],
     result: &mut [u8],
 ) -> u8
-    ensures whole { λ r. ⌜ made r (now (state .exit)) (now (head .exit)) (now (block .exit)) (now (question .exit)) (now (result .exit)) ≡ called (now (state .entry)) (now (head .entry)) (now (block .entry)) (now (question .entry)) (now (result .entry)) (feedIn (now (state .entry)) (now (head .entry)) (now (block .entry)) (now (question .entry)) (now (ring .entry)) (now (piece .entry))) ⌝ }
-    ensures carried { λ _. ⌜ (areLong (length (now (state .entry))) (length (now (result .entry))) ≡ true → decoded (now (state .exit)) ≡ feedIn (now (state .entry)) (now (head .entry)) (now (block .entry)) (now (question .entry)) (now (ring .entry)) (now (piece .entry)) .after .reader) ⌝ }
+    ensures whole { λ r. ⌜ made r (now (state .exit)) (now (head .exit)) (now (block .exit)) (now (question .exit)) (now (result .exit)) ≡ called (now (state .entry)) (now (head .entry)) (now (block .entry)) (now (question .entry)) (now (result .entry)) (feedIn (now (state .entry)) (now (head .entry)) (now (block .entry)) (now (question .entry)) (now (ring .entry)) (now (uri .entry)) (now (piece .entry))) ⌝ }
+    ensures carried { λ _. ⌜ (areLong (length (now (state .entry))) (length (now (result .entry))) ≡ true → decoded (now (state .exit)) ≡ feedIn (now (state .entry)) (now (head .entry)) (now (block .entry)) (now (question .entry)) (now (ring .entry)) (now (uri .entry)) (now (piece .entry)) .after .reader) ⌝ }
 {
     if !are_long(state.len(), result.len()) {
         return SHORT;
@@ -54,6 +55,7 @@ pub extern "C" fn ouinet_reader_feed(
         block,
         question,
         packing::keys_in(ring),
+        uri,
         piece,
     );
     finish(o, state, result)

@@ -8,6 +8,7 @@ use lib.ListN.{length, take, set, replicate}
 use Rattle.octets.specs.Choice.{pick}
 use Rattle.stream.specs.Limits.{ringLimit}
 use Rattle.stream.specs.Ring.{Trusted, Ring}
+use Rattle.stream.specs.Terms.{Terms}
 use Rattle.ring.specs.declared.KeyRecord.{KeyRecord}
 use Rattle.ring.specs.declared.KeyRing.{KeyRing}
 use Rattle.ring.specs.declared.Found.{Found}
@@ -20,6 +21,10 @@ trustedOf k = record { key = k .key; first = k .first; last = k .last }
 -- "a lent table of 0 to 16 records": the first `count` of them, and all 16 where the count is higher
 unfoldable pub ringOf : KeyRing → Ring
 ringOf r = map trustedOf (take (min (r .count) ringLimit) (r .records))
+
+-- what a feed is lent beside the buffers fixes the caller's terms
+abbrev pub termsOf : KeyRing → List ℕ → Terms
+termsOf r uri = record { ring = ringOf r; uri = uri }
 
 -- the number of the record found, which is counted from 0
 abbrev pub foundOf : Found → Option ℕ

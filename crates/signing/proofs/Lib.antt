@@ -1,5 +1,2 @@
 pub mod StringLaws
 pub mod ValueLaws
-pub mod TrustLaws
-pub mod AskLaws
-pub mod JudgeLaws

@@ -1,4 +1,4 @@
--- The signing string by its lines. No public contract names these. Assumes nothing.
+-- The signing string by its lines (paper 01, "The head"). Assumes nothing.
 use mathlib.Core.List.{List, [], _∷_, _++_, map}
 use Prim.Native.Nat.{ℕ}
 use Rattle.octets.specs.Octets.{octets}

@@ -22,7 +22,7 @@ fn put_fields(text: &[u8], f: Fields, list: &[u8], n: Names, out: &mut [u8], fro
     at
 }
 
-pub(crate) fn put_string(
+pub fn put_string(
     text: &[u8],
     f: Fields,
     list: &[u8],

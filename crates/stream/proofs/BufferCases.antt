@@ -22,17 +22,17 @@ use Rattle.stream.specs.Stream.{head, firstLine, isWhole, judgeFirstLine
 use Rattle.stream.specs.Template.{run, past, startsWith, scan}
 use Rattle.stream.specs.Trailer.{endsTrailer, isWholeTrailer, isTrailer}
 use Rattle.stream.proofs.Cases.{Case}
-use Rattle.stream.proofs.Example.{signedLine, ring, show}
+use Rattle.stream.proofs.Example.{signedLine, terms, show}
 
 abbrev first : Buffers
 first = record { head = []; block = octets "abcdefgh"; question = [] }
 
 blockAfter : List ℕ → List Bool → Bool → List ℕ
-blockAfter stream answers told = leaving (rules ring) effects (firstLine show) stream answers told first .block
+blockAfter stream answers told = leaving (rules terms) effects (firstLine show) stream answers told first .block
 
 joinedAfter : List ℕ → Bool → List ℕ
 joinedAfter stream told =
-    let b = leaving (rules ring) effects head stream [] told (record { head = octets "ABCD"; block = octets "abcd"; question = octets "1234" }) in
+    let b = leaving (rules terms) effects head stream [] told (record { head = octets "ABCD"; block = octets "abcd"; question = octets "1234" }) in
     b .head ++ (b .block ++ b .question)
 
 abbrev row : String → List ℕ → List ℕ → Case

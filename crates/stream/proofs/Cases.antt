@@ -10,12 +10,12 @@ use Rattle.octets.specs.Octets.{octets}
 use Rattle.base64.specs.Base64.{isBase64, letterValue, holdsThree, holdsTwo, holdsOne, joinedLetters, base64Bytes}
 use Rattle.hash.specs.Sha2.{bigEndian, padding, padded, number, parsed, schedule, round, rounds, sums, compressed, hashed, unparsed, digest}
 use Rattle.hash.specs.Sha512.{roundWords, sha512}
-use Rattle.sections.specs.Reading.{Event, question, message, last, Log, go, tell, ask, stop, cut, sections, readingAt, reading}
+use Rattle.sections.specs.Reading.{Event, question, message, last, Log, go, tell, ask, stop, cutAt, oneSection, cut, sections, readingAt, reading}
 use Rattle.stream.specs.Blocks.{isWholeLine, carriesSignature, isChunkLine, chunkSize, lineSignature, lineRules, lineFault, chained, blockMessage}
 use Rattle.stream.specs.Bytes.{all, same, lowered, sameName}
 use Rattle.stream.specs.Events.{Question, Release, headAccepted, block, LastWord, closed, refused}
 use Rattle.stream.specs.Fields.{among, isDoubled, isProtected, isProtectedDoubled, namesOf, hasField, valueOf, valuesOf}
-use Rattle.stream.specs.Head.{endsHead, isWholeHead, headWith as readHead, headOf, statusDigits, injectionId, injectionTime, blockSize, blockKey, headKey, listedNames, headSignature, signedOf, signingString, trustedBy, textRules, trustRules, headFault}
+use Rattle.stream.specs.Head.{endsHead, isWholeHead, headWith as readHead, headOf, statusDigits, injectionId, injectionTime, blockSize, blockKey, headKey, listedNames, headSignature, signedOf, signingString, trustedBy, textRules, callerRules, headFault}
 use Rattle.stream.specs.Lines.{endsWith, lines, beforeEmpty, textLines, trimmed, fieldScan, isFieldLine, fieldOf, areFieldLines, fieldsOf, statusScan, isStatusLine, statusOf}
 use Rattle.stream.specs.Numbers.{numberFrom, isDecimal, isHexNumber, decimalWithin, decimal}
 use Rattle.stream.specs.Ring.{fits, firstFrom, found}
@@ -24,8 +24,9 @@ use Rattle.stream.specs.Signatures.{injectionScan, isInjection, bsigsSca
 use Rattle.stream.specs.Signing.{separated, signedFields, joinedFields, signingLine, signingText}
 use Rattle.stream.specs.Stream.{head, firstLine, blockData, dataEnd, nextLine, trailer, isWhole, Says, showOf, headQuestion, acceptHead, judgeHead, judgeFirstLine, judgeDataEnd, blockQuestion, acceptBlock, judgeNextLine, judgeTrailer, judge, rules, plainReading}
 use Rattle.stream.specs.Template.{run, past, startsWith, scan}
+use Rattle.stream.specs.Terms.{Terms}
 use Rattle.stream.specs.Trailer.{endsTrailer, isWholeTrailer, isTrailer}
-use Rattle.stream.proofs.Example.{signedLine, injection, headWith, exampleHead, exampleBody, ring, show}
+use Rattle.stream.proofs.Example.{signedLine, injection, headWith, exampleHead, exampleBody, terms, show}
 
 -- ---- what a row compares: a list of numbers
 
@@ -65,6 +66,13 @@ unfoldable pub events : Log Question Release LastWord → List ℕ
 events [] = []
 events (x ∷ log) = told (x .1) ++ events log
 
+-- The events of a stream that is given as its head and what comes after it. To find where a head ends, as P11 does, takes a second.
+unfoldable pub eventsFrom : Terms → List ℕ → List ℕ → List Bool → List ℕ
+eventsFrom terms first rest answers =
+    events
+    (oneSection (rules terms) head 0 (first ++ rest) answers false (cutAt first rest)
+    (λ c at after later. readingAt (rules terms) c at after later false))
+
 -- ---- the table
 
 pub record Case : Type 0 where
@@ -80,10 +88,10 @@ good = 0 ∷ []
 
 -- the number of the rule that a head with this injection, or this block size, breaks first
 injectionFault : String → List ℕ
-injectionFault text = headFault ring (headWith (octets text) (octets "5")) ∷ []
+injectionFault text = headFault terms (headWith (octets text) (octets "5")) ∷ []
 
 sizeFault : String → List ℕ
-sizeFault text = headFault ring (headWith injection (octets text)) ∷ []
+sizeFault text = headFault terms (headWith injection (octets text)) ∷ []
 
 pub table : List Case
 table =
@@ -92,7 +100,7 @@ table =
     ∷ case "P2" (first "000000005") (6 ∷ [])
     ∷ case "P3" (first "a" ++ first "A") (100 ∷ 10 ∷ 100 ∷ 10 ∷ [])
     ∷ case "P4" (first " 5") (6 ∷ [])
-    ∷ case "P5" (events (reading (rules ring) (firstLine show) (octets "0\r\n\r\n") [] false)) (4 ∷ 0 ∷ [])
+    ∷ case "P5" (events (reading (rules terms) (firstLine show) (octets "0\r\n\r\n") [] false)) (4 ∷ 0 ∷ [])
     ∷ case "P6" (lineFault 5 true true 5 (signedLine (octets "5")) ∷ []) good
     ∷ case "P6" (lineFault 5 true true 5 (octets "5;ouisig=" ++ (replicate 87 65 ++ octets "\r\n")) ∷ []) (6 ∷ [])
     ∷ case "P7" (base64Bytes 3 (octets "NhX4")) (54 ∷ 21 ∷ 248 ∷ [])
@@ -104,7 +112,7 @@ table =
     (octets
     "(response-status): 200\n(created): 1584748800\nx-ouinet-version: 4\nx-ouinet-uri: https://example.com/hello\nx-ouinet-injection: id=qwertyuiop-12345,ts=1584748800\ndate: Sat, 21 Mar 2020 00:00:00 GMT\ncontent-type: text/plain")
     ∷ case "P10" (length (signingString (headOf exampleHead)) ∷ []) (219 ∷ [])
-    ∷ case "P11" (events (plainReading ring (exampleHead ++ exampleBody) (replicate 4 true) false))
+    ∷ case "P11" (events (plainReading terms (exampleHead ++ exampleBody) (replicate 4 true) false))
     (1 ∷ 219 ∷ 2 ∷ 200 ∷ 1 ∷ 83 ∷ 3 ∷ 0 ∷ 5 ∷ 1 ∷ 83 ∷ 3 ∷ 5 ∷ 5 ∷ 1 ∷ 84 ∷ 3 ∷ 10 ∷ 2 ∷ 4 ∷ 12 ∷ [])
     ∷ case "P12" (length (fieldOf (octets "Content-Type:  text/plain ") .value) ∷ []) (10 ∷ [])
     ∷ []
@@ -114,5 +122,5 @@ holdsAll [] = true
 holdsAll (c ∷ cs) = same (c .got) (c .due) && holdsAll cs
 
 pub marked-cases : holdsAll table ≡ true
-unfolding holdsAll table injectionFault sizeFault events told first lineSays isBase64 letterValue holdsThree holdsTwo holdsOne joinedLetters base64Bytes cut sections readingAt reading isWholeLine carriesSignature isChunkLine chunkSize lineSignature lineRules lineFault chained blockMessage all same lowered sameName among isDoubled isProtected isProtectedDoubled namesOf hasField valueOf valuesOf endsHead isWholeHead readHead headOf statusDigits injectionId injectionTime blockSize blockKey headKey listedNames headSignature signedOf signingString trustedBy textRules trustRules headFault endsWith lines beforeEmpty textLines trimmed fieldScan isFieldLine fieldOf areFieldLines fieldsOf statusScan isStatusLine statusOf numberFrom isDecimal isHexNumber decimalWithin decimal fits firstFrom found firstBroken injectionScan isInjection bsigsScan isBsigs sig0Scan isSig0 splitNames areFields isNameList separated signedFields joinedFields signingLine signingText isWhole showOf headQuestion acceptHead judgeHead judgeFirstLine judgeDataEnd blockQuestion acceptBlock judgeNextLine judgeTrailer judge rules plainReading bigEndian padding padded number parsed schedule round rounds sums compressed hashed unparsed digest roundWords sha512 run past startsWith scan endsTrailer isWholeTrailer isTrailer
+unfolding holdsAll table injectionFault sizeFault events told first lineSays isBase64 letterValue holdsThree holdsTwo holdsOne joinedLetters base64Bytes cut sections readingAt reading isWholeLine carriesSignature isChunkLine chunkSize lineSignature lineRules lineFault chained blockMessage all same lowered sameName among isDoubled isProtected isProtectedDoubled namesOf hasField valueOf valuesOf endsHead isWholeHead readHead headOf statusDigits injectionId injectionTime blockSize blockKey headKey listedNames headSignature signedOf signingString trustedBy textRules callerRules headFault endsWith lines beforeEmpty textLines trimmed fieldScan isFieldLine fieldOf areFieldLines fieldsOf statusScan isStatusLine statusOf numberFrom isDecimal isHexNumber decimalWithin decimal fits firstFrom found firstBroken injectionScan isInjection bsigsScan isBsigs sig0Scan isSig0 splitNames areFields isNameList separated signedFields joinedFields signingLine signingText isWhole showOf headQuestion acceptHead judgeHead judgeFirstLine judgeDataEnd blockQuestion acceptBlock judgeNextLine judgeTrailer judge rules plainReading bigEndian padding padded number parsed schedule round rounds sums compressed hashed unparsed digest roundWords sha512 run past startsWith scan endsTrailer isWholeTrailer isTrailer
 marked-cases = refl

@@ -6,6 +6,7 @@ use lib.ListN.{replicate}
 use Rattle.octets.specs.Octets.{octets}
 use Rattle.stream.specs.Ring.{Ring}
 use Rattle.stream.specs.Stream.{Show}
+use Rattle.stream.specs.Terms.{Terms}
 
 -- 32 zero bytes, and 64
 abbrev pub key : List ℕ
@@ -14,20 +15,27 @@ key = octets "AAAAAAAAAAAAAAAAAAAAAAAAAAAAAAAAAAAAAAAAAAA="
 abbrev pub signature : List ℕ
 signature = octets "AAAAAAAAAAAAAAAAAAAAAAAAAAAAAAAAAAAAAAAAAAAAAAAAAAAAAAAAAAAAAAAAAAAAAAAAAAAAAAAAAAAAAA=="
 
--- the example's head, with another injection and another block size
-abbrev pub headWith : List ℕ → List ℕ → List ℕ
-headWith injection size =
-    octets "HTTP/1.1 200 OK\r\nX-Ouinet-Version: 4\r\nX-Ouinet-URI: https://example.com/hello\r\nX-Ouinet-Injection: "
+-- the example's head, with these lines before its fields, these names at the end of its list, another injection and another block size
+abbrev pub headFrom : List ℕ → List ℕ → List ℕ → List ℕ → List ℕ
+headFrom lines names injection size =
+    octets "HTTP/1.1 200 OK\r\n"
+    ++ (lines
+    ++ (octets "X-Ouinet-Version: 4\r\nX-Ouinet-URI: https://example.com/hello\r\nX-Ouinet-Injection: "
     ++ (injection
     ++ (octets "\r\nDate: Sat, 21 Mar 2020 00:00:00 GMT\r\nContent-Type: text/plain\r\nX-Ouinet-Sig0: keyId=\"ed25519="
     ++ (key
     ++ (octets
-    "\",algorithm=\"hs2019\",created=1584748800, headers=\"(response-status) (created) x-ouinet-version x-ouinet-uri x-ouinet-injection date content-type\",signature=\""
+    "\",algorithm=\"hs2019\",created=1584748800, headers=\"(response-status) (created) x-ouinet-version x-ouinet-uri x-ouinet-injection date content-type"
+    ++ (names
+    ++ (octets "\",signature=\""
     ++ (signature
     ++ (octets "\"\r\nX-Ouinet-BSigs: keyId=\"ed25519="
     ++ (key
     ++ (octets "\",algorithm=\"hs2019\",size="
-    ++ (size ++ octets "\r\nTransfer-Encoding: chunked\r\nTrailer: Digest, X-Ouinet-Data-Size, X-Ouinet-Sig1\r\n\r\n")))))))))
+    ++ (size ++ octets "\r\nTransfer-Encoding: chunked\r\nTrailer: Digest, X-Ouinet-Data-Size, X-Ouinet-Sig1\r\n\r\n")))))))))))))
+
+abbrev pub headWith : List ℕ → List ℕ → List ℕ
+headWith injection size = headFrom [] [] injection size
 
 abbrev pub injection : List ℕ
 injection = octets "id=qwertyuiop-12345,ts=1584748800"
@@ -48,6 +56,10 @@ exampleBody =
 -- a ring that trusts the example's key from the first second to the example's
 abbrev pub ring : Ring
 ring = record { key = replicate 32 0; first = 0; last = 1_584_748_800 } ∷ []
+
+-- its URI is asked for
+abbrev pub terms : Terms
+terms = record { ring = ring; uri = octets "https://example.com/hello" }
 
 abbrev pub show : Show
 show = record { id = octets "qwertyuiop-12345"; size = 16; keyNumber = 0 }

@@ -2,6 +2,7 @@ pub mod Example
 pub mod Cases
 pub mod PlaceCases
 pub mod RepeatCases
+pub mod AskedCases
 pub mod Truth
 pub mod RulesHold
 pub mod ScanSizes

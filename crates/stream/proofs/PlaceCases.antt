@@ -14,7 +14,7 @@ use Rattle.stream.specs.Blocks.{carriesSignature, isChunkLine, chunkSize
 use Rattle.stream.specs.Bytes.{all, same, lowered, sameName}
 use Rattle.stream.specs.Fields.{among, isProtected, isProtectedDoubled, namesOf, hasField, valueOf}
 use Rattle.stream.specs.Forms.{signatureForm, sizeForm, chunkForm, dataEndForm, nameForm, fieldForm, fieldLineForm, trailerForm, statusForm, statusLineForm, headForm}
-use Rattle.stream.specs.Head.{endsHead, headWith as readHead, headOf, statusDigits, textRules, trustRules, headFault}
+use Rattle.stream.specs.Head.{endsHead, headWith as readHead, headOf, statusDigits, textRules, callerRules, headFault}
 use Rattle.stream.specs.Lines.{crlf, endsWith, lines, beforeEmpty, textLines, trimmed, fieldScan, isFieldLine, fieldOf, areFieldLines, fieldsOf, statusScan, isStatusLine, statusOf}
 use Rattle.stream.specs.Numbers.{numberFrom, isDecimal, isHexNumber}
 use Rattle.stream.specs.Places.{headPlace, linePlace, dataEndPlace, trailerPlace}
@@ -24,7 +24,7 @@ use Rattle.stream.specs.Stream.{nothing, Says, judgeHead, judgeFirstLine
 use Rattle.stream.specs.Template.{run, past, startsWith, scan}
 use Rattle.stream.specs.Trailer.{endsTrailer, isTrailer}
 use Rattle.stream.proofs.Cases.{said, Case, case, holdsAll}
-use Rattle.stream.proofs.Example.{show}
+use Rattle.stream.proofs.Example.{terms, show}
 
 -- a place
 abbrev row : String → ℕ → ℕ → Case
@@ -111,13 +111,13 @@ rows =
     ∷ says "a bad line after a block" (judgeNextLine show nothing (octets "01234") (line "5;ouisig")) (6 ∷ 8 ∷ [])
     ∷ says "a bad data end" (judgeDataEnd show nothing (octets "01234") (octets "\r\r")) (6 ∷ 1 ∷ [])
     ∷ says "a bad trailer" (judgeTrailer 5 (line "A b" ++ crlf)) (6 ∷ 1 ∷ [])
-    ∷ says "a bad head" (judgeHead [] (line "HTTP/1.1 20" ++ crlf)) (3 ∷ 11 ∷ [])
-    ∷ says "a head with 65 fields" (judgeHead [] (withLines (fields 65 ++ crlf))) (3 ∷ 409 ∷ [])
-    ∷ says "a head with two fields of one protected name" (judgeHead [] (withLines (line "x-ouinet-: b" ++ (line "X-Ouinet-: c" ++ crlf)))) (3 ∷ 47 ∷ [])
-    ∷ says "a head with two fields of another name, and no version" (judgeHead [] (withLines (fields 2 ++ crlf))) (4 ∷ 0 ∷ [])
-    ∷ says "a head without a version" (judgeHead [] (withLines (fields 1 ++ crlf))) (4 ∷ 0 ∷ [])
+    ∷ says "a bad head" (judgeHead terms (line "HTTP/1.1 20" ++ crlf)) (3 ∷ 11 ∷ [])
+    ∷ says "a head with 65 fields" (judgeHead terms (withLines (fields 65 ++ crlf))) (3 ∷ 409 ∷ [])
+    ∷ says "a head with two fields of one protected name" (judgeHead terms (withLines (line "x-ouinet-: b" ++ (line "X-Ouinet-: c" ++ crlf)))) (3 ∷ 47 ∷ [])
+    ∷ says "a head with two fields of another name, and no version" (judgeHead terms (withLines (fields 2 ++ crlf))) (4 ∷ 0 ∷ [])
+    ∷ says "a head without a version" (judgeHead terms (withLines (fields 1 ++ crlf))) (4 ∷ 0 ∷ [])
     ∷ []
 
 pub places : holdsAll rows ≡ true
-unfolding rows holdsAll said letterValue isBase64 holdsThree holdsTwo holdsOne stepForm reachForm reach reachFrom all same lowered sameName among isProtected isProtectedDoubled namesOf hasField valueOf signatureForm sizeForm chunkForm dataEndForm nameForm fieldForm fieldLineForm trailerForm statusForm statusLineForm headForm endsHead endsWith headPlace linePlace dataEndPlace trailerPlace endsTrailer isTrailer lines beforeEmpty textLines trimmed fieldScan isFieldLine fieldOf areFieldLines fieldsOf statusScan isStatusLine statusOf scan run past startsWith numberFrom isDecimal isHexNumber isChunkLine carriesSignature chunkSize lineRules lineFault firstBroken readHead headOf statusDigits injectionScan bsigsScan sig0Scan textRules trustRules headFault judgeHead judgeFirstLine judgeDataEnd judgeNextLine judgeTrailer
+unfolding rows holdsAll said letterValue isBase64 holdsThree holdsTwo holdsOne stepForm reachForm reach reachFrom all same lowered sameName among isProtected isProtectedDoubled namesOf hasField valueOf signatureForm sizeForm chunkForm dataEndForm nameForm fieldForm fieldLineForm trailerForm statusForm statusLineForm headForm endsHead endsWith headPlace linePlace dataEndPlace trailerPlace endsTrailer isTrailer lines beforeEmpty textLines trimmed fieldScan isFieldLine fieldOf areFieldLines fieldsOf statusScan isStatusLine statusOf scan run past startsWith numberFrom isDecimal isHexNumber isChunkLine carriesSignature chunkSize lineRules lineFault firstBroken readHead headOf statusDigits injectionScan bsigsScan sig0Scan textRules callerRules headFault judgeHead judgeFirstLine judgeDataEnd judgeNextLine judgeTrailer
 places = refl

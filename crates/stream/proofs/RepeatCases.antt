@@ -5,19 +5,19 @@ use mathlib.Core.List.{List, [], _∷_, _++_, map}
 use mathlib.Core.Path.{_≡_, refl}
 use Prim.Native.Nat.{ℕ}
 use Prim.Native.String.{String}
-use lib.ListN.{length, replicate, drop}
+use lib.ListN.{replicate, drop}
 use Rattle.octets.specs.Octets.{octets}
 use Rattle.base64.specs.Base64.{isBase64, letterValue, holdsThree, holdsTwo, holdsOne, joinedLetters, base64Bytes}
 use Rattle.hash.specs.Sha2.{bigEndian, padding, padded, number, parsed, schedule, round, rounds, sums, compressed, hashed, unparsed, digest}
 use Rattle.hash.specs.Sha512.{roundWords, sha512}
 use Rattle.scanner.specs.Form.{stepForm, reachForm}
 use Rattle.scanner.specs.Scanner.{reach, reachFrom}
-use Rattle.sections.specs.Reading.{cut, sections, readingAt, reading}
+use Rattle.sections.specs.Reading.{cut, sections, readingAt}
 use Rattle.stream.specs.Blocks.{isWholeLine, carriesSignature, isChunkLine, chunkSize, lineSignature, lineRules, lineFault, chained, blockMessage}
 use Rattle.stream.specs.Bytes.{all, same, lowered, sameName}
 use Rattle.stream.specs.Fields.{among, isDoubled, isProtected, isProtectedDoubled, namesOf, hasField, valueOf, valuesOf, countOf}
 use Rattle.stream.specs.Forms.{nameForm, fieldForm, fieldLineForm, trailerForm, statusForm, statusLineForm, headForm}
-use Rattle.stream.specs.Head.{endsHead, isWholeHead, headWith, headOf, statusDigits, injectionId, injectionTime, blockSize, blockKey, headKey, listedNames, headSignature, signedOf, signingString, trustedBy, textRules, trustRules, headFault}
+use Rattle.stream.specs.Head.{endsHead, isWholeHead, headWith, headOf, statusDigits, injectionId, injectionTime, blockSize, blockKey, headKey, listedNames, headSignature, signedOf, signingString, trustedBy, textRules, callerRules, headFault}
 use Rattle.stream.specs.Lines.{crlf, endsWith, lines, beforeEmpty, textLines, trimmed, fieldScan, isFieldLine, fieldOf, areFieldLines, fieldsOf, statusScan, isStatusLine, statusOf}
 use Rattle.stream.specs.Numbers.{numberFrom, isDecimal, isHexNumber, decimalWithin, decimal}
 use Rattle.stream.specs.Places.{headPlace}
@@ -25,31 +25,24 @@ use Rattle.stream.specs.Ring.{fits, firstFrom, found}
 use Rattle.stream.specs.Rule.{firstBroken}
 use Rattle.stream.specs.Signatures.{injectionScan, isInjection, bsigsScan, isBsigs, sig0Scan, isSig0, splitNames, areFields, isNameList}
 use Rattle.stream.specs.Signing.{separated, signedFields, joinedFields, signingLine, signingText}
-use Rattle.stream.specs.Stream.{isWhole, showOf, headQuestion, acceptHead, judgeHead, judgeFirstLine, judgeDataEnd, blockQuestion, acceptBlock, judgeNextLine, judgeTrailer, judge, rules, plainReading}
+use Rattle.stream.specs.Stream.{isWhole, showOf, headQuestion, acceptHead, judgeHead, judgeFirstLine, judgeDataEnd, blockQuestion, acceptBlock, judgeNextLine, judgeTrailer, judge, rules}
 use Rattle.stream.specs.Template.{run, past, startsWith, scan}
 use Rattle.stream.specs.Trailer.{endsTrailer, isWholeTrailer, isTrailer}
-use Rattle.stream.proofs.Cases.{said, told, events, Case, case, holdsAll}
-use Rattle.stream.proofs.Example.{exampleHead, signedLine, ring}
+use Rattle.stream.proofs.Cases.{said, told, events, eventsFrom, Case, case, holdsAll}
+use Rattle.stream.proofs.Example.{headFrom, injection, exampleHead, signedLine, terms}
 
 -- ---- heads: the example's, which has 705 bytes, 9 fields and a signing string of 219 bytes, with more in it
-
--- more put into a text, after the first place where the mark stands
-unfoldable pub putAfter : List ℕ → List ℕ → List ℕ → List ℕ
-putAfter mark more [] = []
-putAfter mark more (b ∷ l) =
-    elim (startsWith mark (b ∷ l)) [ true ↦ mark ++ (more ++ drop (length mark) (b ∷ l)) | false ↦ b ∷ putAfter mark more l ]
 
 abbrev asLines : List String → List ℕ
 asLines [] = []
 asLines (s ∷ ss) = octets s ++ (crlf ++ asLines ss)
 
--- these field lines before the others
-unfoldable pub withFields : List String → List ℕ
-withFields fields = putAfter (octets "OK\r\n") (asLines fields) exampleHead
-
--- and these names, each after a space, at the end of the list
+-- these field lines before the others; and these names, each after a space, at the end of the list
 unfoldable pub signing : String → List String → List ℕ
-signing names fields = putAfter (octets " content-type") (octets names) (withFields fields)
+signing names fields = headFrom (asLines fields) (octets names) injection (octets "5")
+
+unfoldable pub withFields : List String → List ℕ
+withFields fields = signing "" fields
 
 -- a head whose signed fields `Vary` and `Via` are there twice
 unfoldable pub repeatedHead : List ℕ
@@ -68,7 +61,7 @@ areDoubled : List String → List ℕ
 areDoubled names = asNumber (isProtectedDoubled (map (λ (s : String). octets s) names)) ∷ []
 
 judged : List ℕ → List ℕ
-judged l = said (judgeHead ring l)
+judged l = said (judgeHead terms l)
 
 -- what stands in the signing string after the lines that the example has
 joined : List ℕ → List ℕ
@@ -142,10 +135,10 @@ table =
     ∷ case "a name that is not there, and none" (handed exampleHead "vary" ++ handed exampleHead "") (0 ∷ 0 ∷ [])
     -- a stream with repeated fields is read to its end
     ∷ case "a stream"
-    (events (plainReading ring (repeatedHead ++ (octets "5\r\nHello\r\n" ++ (signedLine (octets "0") ++ crlf))) (replicate 2 true) false))
+    (eventsFrom terms repeatedHead (octets "5\r\nHello\r\n" ++ (signedLine (octets "0") ++ crlf)) (replicate 2 true))
     (1 ∷ 240 ∷ 2 ∷ 200 ∷ 1 ∷ 83 ∷ 3 ∷ 0 ∷ 5 ∷ 4 ∷ 5 ∷ [])
     ∷ []
 
 pub repeated : holdsAll table ≡ true
-unfolding holdsAll table putAfter withFields signing repeatedHead areProtected areDoubled said judged joined handed told events isBase64 letterValue holdsThree holdsTwo holdsOne joinedLetters base64Bytes bigEndian padding padded number parsed schedule round rounds sums compressed hashed unparsed digest roundWords sha512 stepForm reachForm reach reachFrom cut sections readingAt reading isWholeLine carriesSignature isChunkLine chunkSize lineSignature lineRules lineFault chained blockMessage all same lowered sameName among isDoubled isProtected isProtectedDoubled namesOf hasField valueOf valuesOf nameForm fieldForm fieldLineForm trailerForm statusForm statusLineForm headForm endsHead isWholeHead headWith headOf statusDigits injectionId injectionTime blockSize blockKey headKey listedNames headSignature signedOf signingString trustedBy textRules trustRules headFault endsWith lines beforeEmpty textLines trimmed fieldScan isFieldLine fieldOf areFieldLines fieldsOf statusScan isStatusLine statusOf numberFrom isDecimal isHexNumber decimalWithin decimal headPlace fits firstFrom found firstBroken injectionScan isInjection bsigsScan isBsigs sig0Scan isSig0 splitNames areFields isNameList separated signedFields joinedFields signingLine signingText isWhole showOf headQuestion acceptHead judgeHead judgeFirstLine judgeDataEnd blockQuestion acceptBlock judgeNextLine judgeTrailer judge rules plainReading run past startsWith scan endsTrailer isWholeTrailer isTrailer
+unfolding holdsAll table withFields signing repeatedHead areProtected areDoubled said judged joined handed told events eventsFrom isBase64 letterValue holdsThree holdsTwo holdsOne joinedLetters base64Bytes bigEndian padding padded number parsed schedule round rounds sums compressed hashed unparsed digest roundWords sha512 stepForm reachForm reach reachFrom cut sections readingAt isWholeLine carriesSignature isChunkLine chunkSize lineSignature lineRules lineFault chained blockMessage all same lowered sameName among isDoubled isProtected isProtectedDoubled namesOf hasField valueOf valuesOf nameForm fieldForm fieldLineForm trailerForm statusForm statusLineForm headForm endsHead isWholeHead headWith headOf statusDigits injectionId injectionTime blockSize blockKey headKey listedNames headSignature signedOf signingString trustedBy textRules callerRules headFault endsWith lines beforeEmpty textLines trimmed fieldScan isFieldLine fieldOf areFieldLines fieldsOf statusScan isStatusLine statusOf numberFrom isDecimal isHexNumber decimalWithin decimal headPlace fits firstFrom found firstBroken injectionScan isInjection bsigsScan isBsigs sig0Scan isSig0 splitNames areFields isNameList separated signedFields joinedFields signingLine signingText isWhole showOf headQuestion acceptHead judgeHead judgeFirstLine judgeDataEnd blockQuestion acceptBlock judgeNextLine judgeTrailer judge rules run past startsWith scan endsTrailer isWholeTrailer isTrailer
 repeated = refl

@@ -11,13 +11,13 @@ use lib.ListN.{length, drop, length-append}
 use Rattle.octets.specs.Octets.{octets}
 use Rattle.stream.specs.Bytes.{lowered}
 use Rattle.stream.specs.Fields.{among, isDoubled, valueOf}
-use Rattle.stream.specs.Head.{headOf, headWith, statusDigits, listedNames, signingString, textRules, trustRules, headFault}
+use Rattle.stream.specs.Head.{headOf, headWith, statusDigits, listedNames, signingString, textRules, callerRules, headFault}
 use Rattle.stream.specs.Limits.{headLimit}
 use Rattle.stream.specs.Lines.{Field, areFieldLines, statusScan, isStatusLine, statusOf}
-use Rattle.stream.specs.Ring.{Ring}
 use Rattle.stream.specs.Signatures.{sig0Scan, isSig0, listedFields, areFields, isNameList, responseStatusName, createdName, sig0Name}
 use Rattle.stream.specs.Signing.{separated, joinedFields, signingLine, signingText}
 use Rattle.stream.specs.Template.{isLike, kept}
+use Rattle.stream.specs.Terms.{Terms}
 use Rattle.stream.proofs.LineSizes.{fieldSize, field-lines-size, fields-size}
 use Rattle.stream.proofs.NameSizes.{names-size, value-size, signed-size}
 use Rattle.stream.proofs.RulesHold.{head-rules-hold}
@@ -101,12 +101,12 @@ signing-fits′ l status lines sig0 names =
       field-lines-size l,
     )
 
-pub signing-fits : (ring : Ring) (l : List ℕ) → headFault ring l ≡ 0 → length (signingString (headOf l)) ≤ length l
-unfolding textRules trustRules
-signing-fits ring l h =
-    let rules = head-rules-hold ring l h in
+pub signing-fits : (terms : Terms) (l : List ℕ) → headFault terms l ≡ 0 → length (signingString (headOf l)) ≤ length l
+unfolding textRules callerRules
+signing-fits terms l h =
+    let rules = head-rules-hold terms l h in
     signing-fits′ l (search) (search) (search) (search)
 
 -- a buffer of the head's limit has room for it
-pub signing-bound : (ring : Ring) (l : List ℕ) → headFault ring l ≡ 0 → length l ≤ headLimit → length (signingString (headOf l)) ≤ headLimit
-signing-bound ring l h k = le-trans (signing-fits ring l h) k
+pub signing-bound : (terms : Terms) (l : List ℕ) → headFault terms l ≡ 0 → length l ≤ headLimit → length (signingString (headOf l)) ≤ headLimit
+signing-bound terms l h k = le-trans (signing-fits terms l h) k

@@ -1,28 +1,28 @@
 -- Whatever a whole section says in a sound context is sound: the context that follows, and what is told. Assumes nothing.
-use mathlib.Core.Bool.{Bool, true, false, _&&_, _||_}
-use mathlib.Core.List.{List, [], _∷_}
-use mathlib.Core.Path.{_≡_, refl, sym, ap, _∙_}
-use Prim.Native.Nat.{ℕ, zero, suc, _+_, _*_, _≤_, _<_}
+use mathlib.Core.Bool.{Bool, true, false, _||_}
+use mathlib.Core.List.{List}
+use mathlib.Core.Path.{_≡_, refl}
+use Prim.Native.Nat.{ℕ, zero, suc, _+_, _*_, _≤_}
 use native.Mathlib.Omega.{arith}
 use native.Mathlib.Nat.{suc-mul, zero-mul}
 use lib.Dec.{eqb, leb}
 use lib.ListN.{length}
 use borrow.Author.Tests.{leb-true, eqb-true}
 use Rattle.base64.specs.Base64.{isBase64}
-use Rattle.sections.specs.Reading.{Verdict, go, tell, ask, stop, Grant, granted, final}
-use Rattle.stream.specs.Blocks.{isChunkLine, carriesSignature, chunkSize, lineRules, lineFault, sameBool}
-use Rattle.stream.specs.Bytes.{between, same}
+use Rattle.sections.specs.Reading.{go, tell, ask, stop, Grant, granted, final}
+use Rattle.stream.specs.Blocks.{chunkSize, lineRules, lineFault}
+use Rattle.stream.specs.Bytes.{same}
 use Rattle.stream.specs.Events.{Question, Release, headAccepted, block, LastWord, closed, refused}
-use Rattle.stream.specs.Head.{Head, headOf, textRules, trustRules, headFault, injectionId, blockSize}
+use Rattle.stream.specs.Head.{Head, headOf, textRules, callerRules, injectionId, blockSize}
 use Rattle.stream.specs.Limits.{headLimit, blockLimit, bodyLimit, idLimit, timeDigits}
 use Rattle.stream.specs.Lines.{crlf}
 use Rattle.stream.specs.Numbers.{isDecimal}
 use Rattle.stream.specs.Ring.{Ring}
-use Rattle.stream.specs.Rule.{rule, firstBroken}
 use Rattle.stream.specs.Signatures.{isInjection, isBsigs}
 use Rattle.stream.specs.Places.{dataEndPlace, trailerPlace}
 use Rattle.stream.specs.Stream.{Show, Past, nothing, after, Context, head, firstLine, blockData, dataEnd, nextLine, trailer, isWhole, Says, announced, unlessBroken, showOf, headQuestion, acceptHead, judgeHead, judgeFirstLine, judgeDataEnd, blockOffset, bodyWith, blockQuestion, acceptBlock, judgeNextLine, judgeTrailer, judge}
 use Rattle.stream.specs.Template.{isLike, kept}
+use Rattle.stream.specs.Terms.{Terms}
 use Rattle.stream.specs.Trailer.{isTrailer}
 use Rattle.stream.proofs.MessageLaws.{message-length}
 use Rattle.stream.proofs.RulesHold.{rules-hold, head-rules-hold}
@@ -125,11 +125,11 @@ show-sound ring h i b =
     let n = within 1 blockLimit _ (right-holds (isDecimal 5 (kept 1 t)) _ (right-holds (isBase64 32 (kept 0 t)) _ (right-holds (isLike t) _ b))) in
     record { some = n .0; most = n .1; short-id = id .1 }
 
-head-sound : (ring : Ring) (l : List ℕ) → length l ≤ headLimit → SoundSays (judgeHead ring l)
-unfolding judgeHead acceptHead headQuestion textRules trustRules
-head-sound ring l k = unless-sound _ _ (acceptHead ring (headOf l)) λ e.
-    let rules = head-rules-hold ring l e in
-    (signing-bound ring l e k, (tt, show-sound ring (headOf l) (search) (search)))
+head-sound : (terms : Terms) (l : List ℕ) → length l ≤ headLimit → SoundSays (judgeHead terms l)
+unfolding judgeHead acceptHead headQuestion textRules callerRules
+head-sound terms l k = unless-sound _ _ (acceptHead (terms .ring) (headOf l)) λ e.
+    let rules = head-rules-hold terms l e in
+    (signing-bound terms l e k, (tt, show-sound (terms .ring) (headOf l) (search) (search)))
 
 -- ---- any section
 
@@ -149,13 +149,13 @@ trailer-sound total l k = by (isTrailer l)
     by true = k
     by false = tt
 
-pub judge-sound : (ring : Ring) (c : Context) (l : List ℕ) → Sound c → isWhole c l ≡ true → length l ≤ limitOf c → SoundSays (judge ring c l)
+pub judge-sound : (terms : Terms) (c : Context) (l : List ℕ) → Sound c → isWhole c l ≡ true → length l ≤ limitOf c → SoundSays (judge terms c l)
 unfolding judge isWhole
-judge-sound ring head l k w m = head-sound ring l m
-judge-sound ring (firstLine s) l k w m = first-sound s l k
-judge-sound ring (blockData s p n) l k w m =
+judge-sound terms head l k w m = head-sound terms l m
+judge-sound terms (firstLine s) l k w m = first-sound s l k
+judge-sound terms (blockData s p n) l k w m =
     let e : length l ≡ n = omega (arith, leb-true n (length l) w) in
     rw e k
-judge-sound ring (dataEnd s p b) l k w m = end-sound s p b l k
-judge-sound ring (nextLine s p b) l k w m = next-sound s p b l k
-judge-sound ring (trailer total) l k w m = trailer-sound total l k
+judge-sound terms (dataEnd s p b) l k w m = end-sound s p b l k
+judge-sound terms (nextLine s p b) l k w m = next-sound s p b l k
+judge-sound terms (trailer total) l k w m = trailer-sound total l k

@@ -9,8 +9,8 @@ use Rattle.sections.specs.Calls.{part}
 use Rattle.sections.specs.Leaving.{Effects, leaving}
 use Rattle.stream.specs.Events.{Question, LastWord, closed, refused}
 use Rattle.stream.specs.Head.{isWholeHead}
-use Rattle.stream.specs.Ring.{Ring}
 use Rattle.stream.specs.Stream.{Context, head, firstLine, blockData, dataEnd, nextLine, trailer, rules}
+use Rattle.stream.specs.Terms.{Terms}
 
 -- paper 01's head hold, block hold and question hold
 pub record Buffers : Type 0 where
@@ -62,8 +62,8 @@ abbrev pub effects : Effects Context Question LastWord Buffers
 effects = record { gather = withSection; ask = withMessage; finish = withLastWord }
 
 -- the three buffers after a stream: given what the plain reading is given, and their first contents
-unfoldable pub buffersAfter : Ring → List ℕ → List Bool → Bool → Buffers → Buffers
-buffersAfter ring stream answers told b = leaving (rules ring) effects head stream answers told b
+unfoldable pub buffersAfter : Terms → List ℕ → List Bool → Bool → Buffers → Buffers
+buffersAfter terms stream answers told b = leaving (rules terms) effects head stream answers told b
 
 -- the head bytes of a stream: its shortest beginning that is a whole head, or else all of it
 abbrev pub headBytes : List ℕ → List ℕ

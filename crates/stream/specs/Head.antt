@@ -18,6 +18,7 @@ use Rattle.stream.specs.Rule.{Rule, rule, firstBroken}
 use Rattle.stream.specs.Signatures.{injectionScan, idText, timeText, isInjection, bsigsScan, keyText, blockSizeText, isBsigs, sig0Scan, createdText, namesText, headSignatureText, isSig0, splitNames, listedFields, isNameList, responseStatusName, createdName, versionName, uriName, injectionName, bsigsName, sig0Name}
 use Rattle.stream.specs.Signing.{signedFields, joinedFields, signingText}
 use Rattle.stream.specs.Template.{Scanned, nth}
+use Rattle.stream.specs.Terms.{Terms}
 
 -- "at the first CR LF CR LF, or refused with 3 when 8,192 bytes have come without it"
 unfoldable pub endsHead : List ℕ → Bool
@@ -59,6 +60,10 @@ statusDigits h = statusOf (h .statusLine)
 
 unfoldable pub injectionId : Head → List ℕ
 injectionId h = idText (h .injection)
+
+-- the show's URI, trimmed as every value is
+abbrev pub headUri : Head → List ℕ
+headUri h = valueOf uriName (h .fields)
 
 -- `ts`, in seconds
 unfoldable pub injectionTime : Head → ℕ
@@ -123,7 +128,7 @@ textRules l h =
     ∷ rule 4 (isStatus (statusDigits h))
     ∷ rule 4 (sameName (valueOf (octets "transfer-encoding") (h .fields)) (octets "chunked"))
     ∷ rule 4 (not (hasField (octets "content-length") (h .fields)))
-    ∷ rule 4 (leb 1 (length (valueOf uriName (h .fields))))
+    ∷ rule 4 (leb 1 (length (headUri h)))
     ∷ rule 4 (isInjection (h .injection))
     ∷ rule 4 (isBsigs (h .bsigs))
     ∷ rule 4 (isSig0 (h .sig0))
@@ -131,9 +136,14 @@ textRules l h =
     ∷ []
 
 -- "then 12": no record that fits, "or a BSigs key unlike Sig0's"
-unfoldable pub trustRules : Ring → Head → List Rule
+abbrev pub trustRules : Ring → Head → List Rule
 trustRules ring h = rule 12 (isFound (trustedBy ring h)) ∷ rule 12 (same (blockKey h) (headKey h)) ∷ []
 
+-- What the caller's terms ask of a head. Request #105: one "whose `X-Ouinet-URI` differs in any byte is refused with 16, after all of 4 and 5
+-- and before 12".
+unfoldable pub callerRules : Terms → Head → List Rule
+callerRules terms h = rule 16 (same (headUri h) (terms .uri)) ∷ trustRules (terms .ring) h
+
 -- the number of the first broken rule, 0 where the head is good
-unfoldable pub headFault : Ring → List ℕ → ℕ
-headFault ring l = firstBroken (textRules l (headOf l) ++ trustRules ring (headOf l))
+unfoldable pub headFault : Terms → List ℕ → ℕ
+headFault terms l = firstBroken (textRules l (headOf l) ++ callerRules terms (headOf l))

@@ -6,6 +6,7 @@ pub mod Lines
 pub mod Fields
 pub mod Rule
 pub mod Ring
+pub mod Terms
 pub mod Signatures
 pub mod Signing
 pub mod Events

@@ -14,6 +14,7 @@ use Rattle.stream.specs.Lines.{crlf}
 use Rattle.stream.specs.Numbers.{decimalValue}
 use Rattle.stream.specs.Places.{headPlace, linePlace, dataEndPlace, trailerPlace}
 use Rattle.stream.specs.Ring.{Ring, numberOf}
+use Rattle.stream.specs.Terms.{Terms}
 use Rattle.stream.specs.Trailer.{isWholeTrailer, isTrailer}
 
 -- what the head fixes for all that comes after it: the id, N, and the number of the key's record in the ring
@@ -80,8 +81,8 @@ unfoldable pub acceptHead : Ring → Head → Says
 acceptHead ring h =
     ask (headQuestion ring h) (granted (headAccepted (decimalValue (statusDigits h)) (signedOf h)) (firstLine (showOf ring h)))
 
-unfoldable pub judgeHead : Ring → List ℕ → Says
-judgeHead ring l = unlessBroken (headFault ring l) (headPlace l) (acceptHead ring (headOf l))
+unfoldable pub judgeHead : Terms → List ℕ → Says
+judgeHead terms l = unlessBroken (headFault terms l) (headPlace l) (acceptHead (terms .ring) (headOf l))
 
 -- "The first line carries no `ouisig`"; nothing is asked. No signature is due (false); there is no block before it that could be short
 -- (true); and the body has no bytes so far (0).
@@ -121,20 +122,20 @@ judgeNextLine s p b l =
 unfoldable pub judgeTrailer : ℕ → List ℕ → Says
 judgeTrailer total l = elim (isTrailer l) [ true ↦ stop (closed total) | false ↦ stop (refused 6 (trailerPlace l)) ]
 
-unfoldable pub judge : Ring → Context → List ℕ → Says
-judge ring head l = judgeHead ring l
-judge ring (firstLine s) l = judgeFirstLine s l
-judge ring (blockData s p n) l = go (dataEnd s p l)
-judge ring (dataEnd s p b) l = judgeDataEnd s p b l
-judge ring (nextLine s p b) l = judgeNextLine s p b l
-judge ring (trailer total) l = judgeTrailer total l
+unfoldable pub judge : Terms → Context → List ℕ → Says
+judge terms head l = judgeHead terms l
+judge terms (firstLine s) l = judgeFirstLine s l
+judge terms (blockData s p n) l = go (dataEnd s p l)
+judge terms (dataEnd s p b) l = judgeDataEnd s p b l
+judge terms (nextLine s p b) l = judgeNextLine s p b l
+judge terms (trailer total) l = judgeTrailer total l
 
 -- ---- the plain reading
 
 -- "a no gives refusal 10"; "a told end gives refusal 11"
-unfoldable pub rules : Ring → Rules Context Question Release LastWord
-rules ring = record { whole = isWhole; judge = judge ring; denied = refused 10 0; unfinished = refused 11 0 }
+unfoldable pub rules : Terms → Rules Context Question Release LastWord
+rules terms = record { whole = isWhole; judge = judge terms; denied = refused 10 0; unfinished = refused 11 0 }
 
--- "It is given stream bytes, ring, answers and whether the end was told"
-unfoldable pub plainReading : Ring → List ℕ → List Bool → Bool → Log Question Release LastWord
-plainReading ring stream answers told = reading (rules ring) head stream answers told
+-- "It is given stream bytes, ring, answers and whether the end was told"; request #105: and "that URI as one more fixed input"
+unfoldable pub plainReading : Terms → List ℕ → List Bool → Bool → Log Question Release LastWord
+plainReading terms stream answers told = reading (rules terms) head stream answers told

@@ -32,8 +32,8 @@ impl Out {
 }
 
 /// Through the proved library, with the calls made as a program makes them that gets pieces from a network.
-fn ours(stream: &[u8], ring: &[u8], piece: usize) -> Out {
-    let mut reader = ouinet_reader::Reader::new(Ring::parse(ring).expect("a good ring"));
+fn ours(stream: &[u8], ring: &[u8], uri: &[u8], piece: usize) -> Out {
+    let mut reader = ouinet_reader::Reader::new(Ring::parse(ring).expect("a good ring"), uri);
     let mut out = Out::default();
     for piece in stream.chunks(piece) {
         let mut rest = piece;
@@ -55,9 +55,9 @@ fn ours(stream: &[u8], ring: &[u8], piece: usize) -> Out {
 }
 
 /// The same through the second reader.
-fn theirs(stream: &[u8], ring: &[u8], piece: usize) -> Out {
+fn theirs(stream: &[u8], ring: &[u8], uri: &[u8], piece: usize) -> Out {
     let ring = parse_ring(ring).expect("a good ring");
-    let mut reader = second::reader::Reader::new(ring.clone());
+    let mut reader = second::reader::Reader::new(ring.clone(), uri.to_vec());
     let mut out = Out::default();
     for piece in stream.chunks(piece) {
         let mut rest = piece;
@@ -91,15 +91,15 @@ fn median(mut times: Vec<f64>) -> f64 {
 }
 
 fn main() {
-    let ring = long::ring();
+    let (ring, uri) = (long::ring(), long::uri());
     println!("body in MiB, pieces of, ours in ms, the second reader's in ms, ratio");
     for (length, piece, turns) in RUNS {
         let mut stream = Vec::new();
         long::write_stream(length, BLOCK_SIZE, &mut stream).expect("a stream in memory");
         let (mut our_times, mut their_times) = (Vec::new(), Vec::new());
         for _ in 0..turns {
-            let (our_time, our_out) = timed(|| ours(&stream, &ring, piece));
-            let (their_time, their_out) = timed(|| theirs(&stream, &ring, piece));
+            let (our_time, our_out) = timed(|| ours(&stream, &ring, &uri, piece));
+            let (their_time, their_out) = timed(|| theirs(&stream, &ring, &uri, piece));
             assert_eq!(our_out, their_out);
             assert_eq!(our_out.bytes, length);
             our_times.push(our_time);

@@ -1,9 +1,10 @@
-//! `compare PROGRAM_A PROGRAM_B --seed S --count N [--groups LIST] [--least-places P] [--least-repeated R] [--keep DIR]
-//! [--no-status-in-a]`: makes cases with the generator, runs both readers on each, and compares standard output and
+//! `compare PROGRAM_A PROGRAM_B --seed S --count N [--groups LIST] [--least-places P] [--least-repeated R] [--least-asked A]
+//! [--keep DIR] [--no-status-in-a]`: makes cases with the generator, runs both readers on each, and compares standard output and
 //! released bytes with each other, and these and the exit status with what the generator expects.
 //! Both are given `--where`, so that a refusal's line has the place of a wrong text. It counts the
-//! cases in which both refused a text at the same place, and those in which both accepted a head with a
-//! name in several lines; fewer than P or R are a failure. With the last option A is a program that has
+//! cases in which both refused a text at the same place, those in which both accepted a head with a
+//! name in several lines, and those in which both refused a head because another URI was asked for; fewer
+//! than P, R or A are a failure. With the last option A is a program that has
 //! no exit status of its own: its complaints about a malformed file are held to the same rules, and it
 //! must end with 0. Cases that fail are kept in a folder each, under DIR or else under
 //! `compare-kept-S` in the folder for temporary files.
@@ -11,7 +12,7 @@
 mod judge;
 mod run;
 
-use judge::{accepts_head, complaints, has_place};
+use judge::{accepts_head, complaints, has_place, is_other_show};
 use run::{Outcome, Workshop};
 use std::fs;
 use std::path::{Path, PathBuf};
@@ -21,7 +22,7 @@ use streams::sequence::{self, Group, Sequence};
 
 const USAGE: &str =
     "usage: compare PROGRAM_A PROGRAM_B --seed S --count N [--groups LIST] [--least-places P] [--least-repeated R] \
-    [--keep DIR] [--no-status-in-a]";
+    [--least-asked A] [--keep DIR] [--no-status-in-a]";
 
 fn main() -> ExitCode {
     let words: Vec<String> = std::env::args().skip(1).collect();
@@ -40,33 +41,37 @@ struct Settings {
     seed: u64,
     count: usize,
     groups: Vec<Group>,
-    /// So many refusals with a place must be among what is compared, and so many accepted heads with a repeated field.
+    /// So many cases of each kind must be among what is compared.
     least: Counts,
     keep: PathBuf,
     /// Whether each program tells a malformed file by its exit status.
     have_status: [bool; 2],
 }
 
-/// Of the cases that passed, those of two kinds.
+/// Of the cases that passed, those of three kinds.
 #[derive(Default)]
 struct Counts {
     /// Both refused a text at the same place.
     places: usize,
     /// Both accepted a head in which a name has several lines.
     repeated: usize,
+    /// Both refused a head because another URI was asked for.
+    asked: usize,
 }
 
 impl Counts {
     fn add(&mut self, case: &Case, outcomes: &[Outcome; 2]) {
         self.places += usize::from(outcomes.iter().all(has_place));
         self.repeated += usize::from(outcomes.iter().all(accepts_head) && case.has_repeated_field());
+        self.asked += usize::from(outcomes.iter().all(is_other_show));
     }
 
-    /// Tells both counts, and gives how many of them are too low.
+    /// Tells the counts, and gives how many of them are too low.
     fn tell(&self, least: &Counts) -> usize {
         let kinds = [
             ("refusals with a place", self.places, least.places),
             ("accepted heads with a repeated field", self.repeated, least.repeated),
+            ("refusals of another show", self.asked, least.asked),
         ];
         for (what, count, least) in kinds {
             println!("{count} {what} were compared");
@@ -92,6 +97,7 @@ impl Settings {
                 "--groups" => groups = sequence::parse_groups(value()?)?,
                 "--least-places" => least.places = number(word, value()?)? as usize,
                 "--least-repeated" => least.repeated = number(word, value()?)? as usize,
+                "--least-asked" => least.asked = number(word, value()?)? as usize,
                 "--keep" => keep = Some(PathBuf::from(value()?)),
                 "--no-status-in-a" => have_status[0] = false,
                 other if other.starts_with("--") => return Err(format!("no option {other}\n{USAGE}")),

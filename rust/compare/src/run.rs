@@ -6,7 +6,7 @@ use std::path::{Path, PathBuf};
 use std::process::{Child, Command, Stdio};
 use std::thread;
 use std::time::{Duration, Instant};
-use streams::case::{Case, ANSWERS, CUTS, RING, STREAM};
+use streams::case::{Case, Naming, ANSWERS, CUTS, RING, STREAM};
 
 /// A reader that has not ended by then is stopped.
 const PATIENCE: Duration = Duration::from_secs(60);
@@ -74,7 +74,7 @@ impl Workshop {
         if case.cuts.is_some() {
             command.arg(CUTS).arg(&body);
         }
-        command.arg("--where");
+        command.args(options(case));
         command.stdin(if case.through_pipe { Stdio::piped() } else { Stdio::null() });
         command.stdout(File::create(self.folder.join(&output)).map_err(failed)?);
         command.stderr(File::create(self.folder.join(&errors)).map_err(failed)?);
@@ -93,6 +93,17 @@ impl Workshop {
             errors: read(&errors).map_err(failed)?,
             body: read(&body).unwrap_or_default(),
         })
+    }
+}
+
+/// The options of a case. Their order depends on the case alone, so that both orders come and both programs get the same.
+fn options(case: &Case) -> Vec<&'static str> {
+    let uri = case.naming.words();
+    let uri_first = case.naming != Naming::WithoutFile && case.stream.len().is_multiple_of(2);
+    if uri_first {
+        [uri, &["--where"]].concat()
+    } else {
+        [&["--where"], uri].concat()
     }
 }
 

@@ -6,6 +6,7 @@ use crate::due::same;
 use crate::material::{ring_bytes, Material};
 use crate::tally::Tally;
 use ouinet_reader::raw::{self, Outcome};
+use streams::asked::other_uri;
 use streams::rng::Rng;
 
 /// Numbers at or beside a limit somewhere.
@@ -74,7 +75,7 @@ fn forge(buffers: &mut Buffers, rng: &mut Rng) {
 }
 
 enum Call {
-    Feed(Vec<u8>),
+    Feed { piece: Vec<u8>, uri: Vec<u8> },
     Answer(u8),
     End,
 }
@@ -86,7 +87,9 @@ fn draw(material: &Material, rng: &mut Rng) -> Call {
         _ => {
             let start = rng.below(material.stream.len() + 1);
             let rest = &material.stream[start..];
-            Call::Feed(rest[..rng.below(rest.len() + 1)].to_vec())
+            let piece = rest[..rng.below(rest.len() + 1)].to_vec();
+            let uri = if rng.one_in(2) { material.uri.clone() } else { other_uri(&material.uri, rng) };
+            Call::Feed { piece, uri }
         }
     }
 }
@@ -119,7 +122,7 @@ fn step(buffers: &mut Buffers, material: &Material, rng: &mut Rng) -> Result<(),
 fn check_word(now: &Buffers, before: &Buffers, call: &Call, word: u8, due: Option<u64>) -> Result<(), String> {
     let outcome = Outcome::of(&now.result_bytes());
     same("the word", &outcome.word, &u64::from(word))?;
-    let piece = if let Call::Feed(piece) = call { piece.len() } else { 0 };
+    let piece = if let Call::Feed { piece, .. } = call { piece.len() } else { 0 };
     if word > raw::REFUSED || outcome.taken > piece as u64 {
         return Err(format!("word {word}, {} taken of {piece} bytes", outcome.taken));
     }
@@ -153,7 +156,7 @@ fn first_number(state: &[u8]) -> u64 {
 fn make(buffers: &mut Buffers, call: &Call, ring: &[u8], lengths: &Lengths) -> u8 {
     let mut lent = buffers.lend(lengths);
     match call {
-        Call::Feed(piece) => raw::feed(&mut lent, ring, piece),
+        Call::Feed { piece, uri } => raw::feed(&mut lent, ring, uri, piece),
         Call::Answer(good) => raw::answer(&mut lent, *good),
         Call::End => raw::end(&mut lent),
     }

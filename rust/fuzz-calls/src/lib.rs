@@ -2,7 +2,7 @@
 //! every call: the word with all it carries, the count taken, every byte of every lent buffer and of the marks around it,
 //! the handed-out parts, and how many lines a field has. A list depends only on the seed and its own number.
 //!
-//! * `material`: the streams that are fed, honest and broken, and their rings;
+//! * `material`: the streams that are fed, honest and broken, their rings, and the URIs asked for;
 //! * `buffers`: lent buffers with marks around them, and what must lie in them;
 //! * `due`: what a call must say;
 //! * `list`: one list of calls, drawn and compared as it goes;

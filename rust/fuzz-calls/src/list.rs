@@ -9,6 +9,7 @@ use ouinet_reader::raw;
 use second::calls::{Calls, Contents, Outcome, Word};
 use second::event::Refusal;
 use second::ring::Record;
+use streams::asked::other_uri;
 use streams::rng::Rng;
 
 /// The longest pieces of a list: most lists are cut small.
@@ -35,7 +36,7 @@ struct LentRing {
 }
 
 enum Call {
-    Feed { piece: Vec<u8>, ring: LentRing },
+    Feed { piece: Vec<u8>, ring: LentRing, uri: Vec<u8> },
     Answer { good: u8 },
     End,
 }
@@ -105,6 +106,7 @@ impl<'a> List<'a> {
         let call = self.draw();
         let lengths = self.draw_lengths();
         tally.calls += 1;
+        tally.late_uris += u64::from(self.is_late_uri(&call));
         if lengths.state < raw::STATE_SIZE || lengths.result < raw::RESULT_SIZE {
             tally.too_short += 1;
             let word = self.make(&call, &lengths);
@@ -119,6 +121,12 @@ impl<'a> List<'a> {
         self.buffers.check()?;
         self.check_block()?;
         self.check_value(tally)
+    }
+
+    /// Whether a call is lent another URI than the one that fits, when the head has been judged.
+    fn is_late_uri(&self, call: &Call) -> bool {
+        let is_other = matches!(call, Call::Feed { uri, .. } if *uri != self.material.uri);
+        is_other && !self.calls.reading().events.is_empty()
     }
 
     /// Mostly what is due; now and then anything.
@@ -152,7 +160,7 @@ impl<'a> List<'a> {
             let garbage = self.rng.between(1, 9);
             piece = self.rng.bytes(garbage);
         }
-        Call::Feed { piece, ring: self.ring() }
+        Call::Feed { piece, ring: self.ring(), uri: self.uri() }
     }
 
     /// The ring that fits, or now and then another one, one that is too long, or bytes that are no ring.
@@ -177,6 +185,16 @@ impl<'a> List<'a> {
         }
     }
 
+    /// The URI that fits, or now and then another one. When the head has been judged none is looked at, so any will do.
+    fn uri(&mut self) -> Vec<u8> {
+        let fitting = &self.material.uri;
+        let other = if self.calls.reading().events.is_empty() { 40 } else { 3 };
+        match self.rng.below(other) {
+            0 => other_uri(fitting, self.rng),
+            _ => fitting.clone(),
+        }
+    }
+
     /// Whole buffers, or now and then one that is too short.
     fn draw_lengths(&mut self) -> Lengths {
         let mut lengths = self.buffers.whole();
@@ -196,7 +214,7 @@ impl<'a> List<'a> {
     fn make(&mut self, call: &Call, lengths: &Lengths) -> u8 {
         let mut lent = self.buffers.lend(lengths);
         match call {
-            Call::Feed { piece, ring } => raw::feed(&mut lent, &ring.bytes, piece),
+            Call::Feed { piece, ring, uri } => raw::feed(&mut lent, &ring.bytes, uri, piece),
             Call::Answer { good } => raw::answer(&mut lent, *good),
             Call::End => raw::end(&mut lent),
         }
@@ -205,8 +223,8 @@ impl<'a> List<'a> {
     /// Tells the second reader of the call.
     fn tell(&mut self, call: &Call, lengths: &Lengths) -> Outcome {
         match call {
-            Call::Feed { piece, ring } => {
-                let outcome = self.calls.feed(lengths.holds, &ring.records, piece);
+            Call::Feed { piece, ring, uri } => {
+                let outcome = self.calls.feed(lengths.holds, &ring.records, uri, piece);
                 self.place = (self.place + outcome.taken).min(self.material.stream.len());
                 outcome
             }

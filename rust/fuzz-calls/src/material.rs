@@ -1,9 +1,10 @@
-//! The streams that are fed, honest and broken, and the rings that fit them.
+//! The streams that are fed, honest and broken, and the rings and URIs that fit them.
 
 use ouinet_reader::raw::RECORD_SIZE;
 use second::files::parse_ring;
 use second::ring::Record;
-use streams::case::Case;
+use streams::asked;
+use streams::case::{Answering, Case};
 use streams::damage;
 use streams::head;
 use streams::plan::{ring_text, Built};
@@ -14,12 +15,13 @@ use streams::rules::{self, Rule};
 use streams::sequence::{Group, Sequence};
 use streams::wrong_text;
 
-/// A stream and its ring.
+/// A stream, its ring, and the URI that it is asked for by: mostly that of its head.
 #[derive(Clone)]
 pub struct Material {
     pub label: String,
     pub stream: Vec<u8>,
     pub ring: Vec<Record>,
+    pub uri: Vec<u8>,
 }
 
 /// The records as the library reads them.
@@ -41,18 +43,19 @@ impl Material {
     }
 
     fn of_case(case: Case) -> Self {
-        Material { label: case.label, stream: case.stream, ring: parse_ring(&case.ring).unwrap_or_default() }
+        let ring = parse_ring(&case.ring).unwrap_or_default();
+        Material { label: case.label, stream: case.stream, ring, uri: case.uri }
     }
 
     fn of_built(label: &str, built: &Built) -> Self {
         let ring = parse_ring(&ring_text(&built.ring)).unwrap_or_default();
-        Material { label: label.to_string(), stream: built.bytes(), ring }
+        Material { label: label.to_string(), stream: built.bytes(), ring, uri: built.uri.clone() }
     }
 }
 
 /// What materials are drawn from.
 pub struct Pool {
-    /// The example, each rule broken on it, both sides of each limit, and repeated fields.
+    /// The example, each rule broken on it, both sides of each limit, repeated fields, and asked URIs.
     fixed: Vec<Material>,
     small: Vec<Built>,
     hits: Vec<damage::Hit>,
@@ -61,7 +64,7 @@ pub struct Pool {
 
 impl Pool {
     pub fn new() -> Self {
-        let groups = [Group::Example, Group::Rules, Group::Bounds, Group::Repeated];
+        let groups = [Group::Example, Group::Rules, Group::Bounds, Group::Repeated, Group::Asked];
         let small = damage::streams();
         Pool {
             fixed: Sequence::new(1, &groups).map(Material::of_case).collect(),
@@ -72,7 +75,7 @@ impl Pool {
     }
 
     pub fn draw(&self, rng: &mut Rng) -> Material {
-        match rng.below(10) {
+        match rng.below(11) {
             0 | 1 => rng.pick(&self.fixed).clone(),
             2 | 3 => Material::of_case(damage::case(*rng.pick(&self.hits), &self.small, rng)),
             4 => Material::of_built("a small stream", rng.pick(&self.small)),
@@ -80,6 +83,7 @@ impl Pool {
             6 => Material::of_case(damage::several(&random::full_plan(rng).build(), rng)),
             7 => Material::of_case(wrong_text::case(rng)),
             8 => Material::of_case(repeated::case(rng)),
+            9 => Material::of_case(asked::case(&self.rules, rng)),
             _ => Material::of_built("a random stream", &random::plan(rng).build()),
         }
     }
@@ -89,9 +93,7 @@ impl Pool {
         let rule = rng.pick(&self.rules);
         let spot = *rng.pick(&rule.spots);
         let plan = random::full_plan(rng);
-        let broken = rule.break_at(spot, &plan, rng);
-        let ring = parse_ring(&ring_text(&broken.ring)).unwrap_or_default();
-        Material { label: format!("{} at {spot:?}", rule.label), stream: broken.stream, ring }
+        Material::of_case(rule.case(spot, &plan, Answering::AllYes, rng))
     }
 }
 

@@ -9,7 +9,7 @@ pub struct Tally {
     /// more, question, head, block, closed.
     pub words: [u64; 5],
     /// By the refusal's number.
-    pub refusals: [u64; 13],
+    pub refusals: [u64; 17],
     /// Refusals that tell where the text went wrong.
     pub places: u64,
     /// Calls whose state or result was too short.
@@ -20,6 +20,8 @@ pub struct Tally {
     pub values: u64,
     /// Counts of a field's lines that were above 1.
     pub repeated: u64,
+    /// Feeds that were lent another URI, when the head had been judged: it is not looked at then.
+    pub late_uris: u64,
 }
 
 impl Tally {
@@ -30,6 +32,7 @@ impl Tally {
         self.forged += other.forged;
         self.values += other.values;
         self.repeated += other.repeated;
+        self.late_uris += other.late_uris;
         self.places += other.places;
         for (mine, theirs) in self.words.iter_mut().zip(other.words) {
             *mine += theirs;
@@ -46,11 +49,11 @@ impl fmt::Display for Tally {
         writeln!(out, "{} lists, {} calls, {} more on forged states", self.lists, self.calls, self.forged)?;
         writeln!(out, "more {more}, question {question}, head {head}, block {block}, closed {closed}")?;
         write!(out, "refused")?;
-        for (number, count) in self.refusals.iter().enumerate().skip(1) {
-            write!(out, " {number}: {count}{}", if number < 12 { "," } else { "" })?;
+        for number in (1..=12).chain([16]) {
+            write!(out, " {number}: {}{}", self.refusals[number], if number < 16 { "," } else { "" })?;
         }
         writeln!(out, "\nrefusals with a place {}", self.places)?;
         write!(out, "buffers too short for any answer {}, values handed out {}, ", self.too_short, self.values)?;
-        write!(out, "counts of a repeated field {}", self.repeated)
+        write!(out, "counts of a repeated field {}, other URIs after the head {}", self.repeated, self.late_uris)
     }
 }

@@ -24,12 +24,14 @@ fn some_lists() {
     assert!(tally.words.iter().all(|&count| count > 0), "a word never came");
     assert!(tally.places >= 200, "only {} refusals had a place", tally.places);
     assert!(tally.repeated >= 100, "only {} counts were above 1", tally.repeated);
+    assert!(tally.refusals[16] >= 100, "only {} heads were another show's", tally.refusals[16]);
+    assert!(tally.late_uris >= 1000, "only {} feeds after the head had another URI", tally.late_uris);
 }
 
 #[test]
 fn some_more_lists() {
     let tally = run(2000, 2000);
-    for number in [1, 2, 3, 4, 5, 6, 7, 8, 10, 11, 12] {
+    for number in [1, 2, 3, 4, 5, 6, 7, 8, 10, 11, 12, 16] {
         assert!(tally.refusals[number] > 0, "refusal {number} never came");
     }
 }

@@ -10,7 +10,7 @@ use streams::sequence::{Group, Sequence};
 
 /// The last refusal with a place and its section, all answers yes.
 fn ours(case: &Case, most: usize, rng: &mut Rng) -> Option<(u64, Section)> {
-    let mut reader = Reader::new(Ring::parse(&case.ring).expect("a good ring"));
+    let mut reader = Reader::new(Ring::parse(&case.ring).expect("a good ring"), case.uri.clone());
     let mut rest = &case.stream[..];
     while !rest.is_empty() {
         let length = rng.between(1, most).min(rest.len());
@@ -31,7 +31,7 @@ fn ours(case: &Case, most: usize, rng: &mut Rng) -> Option<(u64, Section)> {
 
 fn theirs(case: &Case) -> Option<(u64, Section)> {
     let ring = parse_ring(&case.ring).expect("a good ring");
-    let reading = plain::read(&case.stream, &ring, &[true; 40], true);
+    let reading = plain::read(&case.stream, &ring, &case.uri, &[true; 40], true);
     let OtherEvent::Refused(refusal) = reading.events.last()?.event else { return None };
     let (kind, range) = reading.sections.last()?;
     let kind = match kind {

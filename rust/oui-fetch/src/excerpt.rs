@@ -1,5 +1,6 @@
-//! A line of bytes as it is shown to a person: printable ASCII as it is, all else escaped, cut around what matters.
+//! A line of bytes as it is shown to a person: printable, and cut around what matters.
 
+use ouinet_reader::printable;
 use std::ops::Range;
 
 /// So many columns of a line are shown, if it has more.
@@ -12,21 +13,9 @@ const INDENT: &str = "    ";
 /// What stands where something is left out.
 const CUT: &str = "...";
 
-/// A byte as it is shown. A backslash is escaped too, so that an escape cannot be mistaken for text.
-fn escaped(byte: u8) -> String {
-    match byte {
-        b'\\' => r"\\".to_string(),
-        b'\r' => r"\r".to_string(),
-        b'\n' => r"\n".to_string(),
-        b'\t' => r"\t".to_string(),
-        32..=126 => char::from(byte).to_string(),
-        _ => format!(r"\x{byte:02x}"),
-    }
-}
-
 /// The line, and under it a mark at these bytes of it, of which there must be one at least.
 pub fn marked(line: &[u8], mark: Range<usize>) -> [String; 2] {
-    let shown: Vec<String> = line.iter().map(|&byte| escaped(byte)).collect();
+    let shown: Vec<String> = line.iter().map(|&byte| printable(&[byte], 1)).collect();
     let part = around(&shown, mark.start);
     let before = if part.start > 0 { CUT } else { "" };
     let after = if part.end < shown.len() { CUT } else { "" };
@@ -46,9 +35,7 @@ pub fn beginning(text: &[u8]) -> String {
 
 /// A name within a sentence, cut if it is long.
 pub fn short(name: &[u8]) -> String {
-    let shown: String = name.iter().take(MOST_NAME).map(|&byte| escaped(byte)).collect();
-    let after = if name.len() > MOST_NAME { CUT } else { "" };
-    format!("{shown}{after}")
+    printable(name, MOST_NAME)
 }
 
 fn width(shown: &[String]) -> usize {
@@ -76,16 +63,6 @@ fn grow_left(shown: &[String], part: &mut Range<usize>, most: usize) {
 #[cfg(test)]
 mod tests {
     use super::*;
-
-    #[test]
-    fn bytes() {
-        for byte in 0..=255 {
-            let shown = escaped(byte);
-            assert!(shown.bytes().all(|byte| (32..127).contains(&byte)), "{byte}");
-            assert_eq!(shown.len() == 1, (32..127).contains(&byte) && byte != b'\\');
-        }
-        assert_eq!([0, 9, 10, 13, 27, 92, 127, 255].map(escaped).concat(), r"\x00\t\n\r\x1b\\\x7f\xff");
-    }
 
     #[test]
     fn short_lines() {

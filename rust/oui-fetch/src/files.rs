@@ -1,9 +1,9 @@
 //! The program's files. Every complaint names the file.
 
 use crate::Complaint;
-use ouinet_reader::Ring;
+use ouinet_reader::{head_uri, Ring};
 use std::fs::File;
-use std::io::{self, Read, Write};
+use std::io::{self, Cursor, Read, Write};
 use std::os::fd::{AsFd, BorrowedFd};
 use std::os::unix::fs::MetadataExt;
 use std::path::Path;
@@ -28,10 +28,12 @@ const MOST_SECTION: usize = 8192;
 /// What is kept of the stream may grow by so many bytes before the older ones are dropped.
 const SPARE: usize = 65_536;
 
-/// Where the stream comes from. The last bytes that were read are kept, for a diagnosis: all of the last read, and before it as many as
-/// a section can have.
+/// Where the stream comes from. Its head may be read ahead of the rest. The last bytes that were read are kept, for a diagnosis: all of
+/// the last read, and before it as many as a section can have.
 pub struct Source {
     file: File,
+    /// What was read ahead; the next reads start from it.
+    ahead: Cursor<Vec<u8>>,
     recent: Vec<u8>,
     /// How many bytes were read.
     count: u64,
@@ -39,11 +41,29 @@ pub struct Source {
 
 impl Source {
     fn new(file: File) -> Self {
-        Source { file, recent: Vec::new(), count: 0 }
+        Source { file, ahead: Cursor::default(), recent: Vec::new(), count: 0 }
     }
 
     pub fn file(&self) -> &File {
         &self.file
+    }
+
+    /// The URI that the head gives, before anything else is read; empty where it gives none. The head is read ahead for it: up to its end,
+    /// to as many bytes as a head may have, or to the end of the stream.
+    pub fn head_uri(&mut self) -> io::Result<Vec<u8>> {
+        let mut head = Vec::new();
+        let mut piece = [0; MOST_SECTION];
+        while head.len() < MOST_SECTION && !head.windows(4).any(|four| four == b"\r\n\r\n") {
+            match self.file.read(&mut piece[..MOST_SECTION - head.len()]) {
+                Ok(0) => break,
+                Ok(count) => head.extend_from_slice(&piece[..count]),
+                Err(error) if error.kind() == io::ErrorKind::Interrupted => (),
+                Err(error) => return Err(error),
+            }
+        }
+        let uri = head_uri(&head).unwrap_or_default().to_vec();
+        self.ahead = Cursor::new(head);
+        Ok(uri)
     }
 
     /// Bytes of the stream that were read lately, by their offset.
@@ -64,7 +84,10 @@ impl Source {
 
 impl Read for Source {
     fn read(&mut self, out: &mut [u8]) -> io::Result<usize> {
-        let count = self.file.read(out)?;
+        let count = match self.ahead.read(out)? {
+            0 => self.file.read(out)?,
+            count => count,
+        };
         self.keep(&out[..count]);
         Ok(count)
     }

@@ -1,31 +1,45 @@
 //! Events as lines of JSON.
 
-use ouinet_reader::{Event, Reader};
+use ouinet_reader::{Event, Reader, Refusal};
 use std::fmt::Write;
 
-/// The line of an event, without its line feed.
-pub fn line(reader: &Reader, event: &Event) -> String {
+/// The line of an event, without its line feed. The last one says where any URI was taken.
+pub fn line(reader: &Reader, event: &Event, any_uri: bool) -> String {
+    let mut line = members(reader, event);
+    if any_uri && event.is_final() {
+        line.push_str(r#","any_uri":true"#);
+    }
+    format!("{{{line}}}")
+}
+
+fn members(reader: &Reader, event: &Event) -> String {
     match event {
         Event::Question(question) => {
-            format!(r#"{{"event":"question","length":{},"record":{}}}"#, question.message.len(), question.record)
+            format!(r#""event":"question","length":{},"record":{}"#, question.message.len(), question.record)
         }
         Event::HeadAccepted { status } => {
             let uri = quoted(&reader.value("X-Ouinet-URI"));
-            format!(r#"{{"event":"head","status":{status},"uri":{uri}}}"#)
+            format!(r#""event":"head","status":{status},"uri":{uri}"#)
         }
         Event::Block { offset, bytes } => {
-            format!(r#"{{"event":"block","offset":{offset},"length":{}}}"#, bytes.len())
+            format!(r#""event":"block","offset":{offset},"length":{}"#, bytes.len())
         }
-        Event::Closed { total } => format!(r#"{{"event":"closed","total":{total}}}"#),
-        Event::Refused(refusal) => {
-            let meaning = quoted(refusal.meaning().as_bytes());
-            let at = number_or_null(refusal.at());
-            let start = reader.refused_section().map(|section| section.start);
-            let offset = number_or_null(refusal.at().zip(start).map(|(at, start)| start + at));
-            let number = refusal.number();
-            format!(r#"{{"event":"refused","number":{number},"meaning":{meaning},"at":{at},"stream_offset":{offset}}}"#)
-        }
+        Event::Closed { total } => format!(r#""event":"closed","total":{total}"#),
+        Event::Refused(refusal) => refused(reader, *refusal),
     }
+}
+
+/// Of another show the line has both URIs, too.
+fn refused(reader: &Reader, refusal: Refusal) -> String {
+    let meaning = quoted(refusal.meaning().as_bytes());
+    let at = number_or_null(refusal.at());
+    let start = reader.refused_section().map(|section| section.start);
+    let offset = number_or_null(refusal.at().zip(start).map(|(at, start)| start + at));
+    let number = refusal.number();
+    let shows = reader
+        .offered_uri()
+        .map_or(String::new(), |offered| format!(r#","asked":{},"got":{}"#, quoted(reader.uri()), quoted(offered)));
+    format!(r#""event":"refused","number":{number},"meaning":{meaning},"at":{at},"stream_offset":{offset}{shows}"#)
 }
 
 fn number_or_null(number: Option<u64>) -> String {

@@ -12,14 +12,17 @@ mod progress;
 
 use diagnosis::Diagnosis;
 use files::{Source, Target};
-use options::{Asked, Options};
-use ouinet_reader::{run, Ending, Event, Question, Reader, Refusal, RunError, Section};
+use options::{Asked, Options, Wanted};
+use ouinet_reader::{printable, run, Ending, Event, Question, Reader, Refusal, RunError, Section};
 use progress::Progress;
 use std::io::{self, IsTerminal, Write};
 use std::process::ExitCode;
 
 /// What goes to standard error where a file cannot be used, as one line.
 type Complaint = String;
+
+/// So many bytes of a URI are shown in the last word.
+const MOST_URI: usize = 100;
 
 /// The exit status of a refused stream.
 const REFUSED: u8 = 1;
@@ -50,13 +53,21 @@ fn main() -> ExitCode {
 fn fetch(options: &Options) -> Result<Ending, Complaint> {
     let ring = files::load_ring(&options.ring)?;
     let mut source = files::open_stream(options.stream.as_deref())?;
+    let not_read = |error| format!("{}: {error}", files::stream_name(options.stream.as_deref()));
+    let (uri, any_uri) = match &options.wanted {
+        Wanted::Uri(uri) => (uri.clone(), false),
+        Wanted::Any => (source.head_uri().map_err(not_read)?, true),
+    };
     let target = Target::open(options.body.as_deref(), source.file())?;
     let progress = Progress::new(!options.quiet && !writes_to_terminal(options));
-    let mut sitting = Sitting { json: options.json, target, progress, blocks: 0, bytes: 0, refused: None };
-    let ending = run(&mut source, ring, verify, |reader, event| sitting.on(reader, event));
+    let json = options.json;
+    let taken_uri = any_uri.then(|| uri.clone());
+    let mut sitting =
+        Sitting { json, taken_uri, target, progress, blocks: 0, bytes: 0, refused: None, other_show: None };
+    let ending = run(&mut source, ring, uri, verify, |reader, event| sitting.on(reader, event));
     sitting.progress.clear();
     let ending = ending.map_err(|error| match error {
-        RunError::Read(error) => format!("{}: {error}", files::stream_name(options.stream.as_deref())),
+        RunError::Read(error) => not_read(error),
         RunError::Stopped(complaint) => complaint,
     })?;
     if !options.quiet {
@@ -77,12 +88,16 @@ fn verify(question: &Question) -> bool {
 /// One reading of one stream.
 struct Sitting {
     json: bool,
+    /// With `--any-uri`, the URI that the head gives; empty where it gives none.
+    taken_uri: Option<Vec<u8>>,
     target: Target,
     progress: Progress,
     blocks: u64,
     bytes: u64,
     /// The section that was refused for its text or length.
     refused: Option<Section>,
+    /// What is said of a show that was not asked for.
+    other_show: Option<String>,
 }
 
 impl Sitting {
@@ -95,8 +110,9 @@ impl Sitting {
             self.progress.show(self.bytes);
         }
         self.refused = reader.refused_section();
+        self.other_show = reader.another_show();
         if self.json {
-            let line = json::line(reader, event);
+            let line = json::line(reader, event, self.taken_uri.is_some());
             writeln!(io::stdout(), "{line}").map_err(|error| format!("standard output: {error}"))?;
         }
         Ok(())
@@ -105,17 +121,27 @@ impl Sitting {
     /// What is said at the end: a line, and after a wrong text lines that show it.
     fn last_word(&self, ending: &Ending, source: &Source) -> String {
         let Sitting { blocks, bytes, .. } = self;
+        let any_uri = self.any_uri();
         match ending {
-            Ending::Closed { .. } => format!("closed: {bytes} bytes in {blocks} blocks, each verified"),
+            Ending::Closed { .. } => format!("closed: {bytes} bytes in {blocks} blocks, each verified{any_uri}"),
             Ending::Refused(refusal) => {
                 let before = match bytes {
                     0 => "nothing was verified".to_string(),
                     _ => format!("the {bytes} bytes before were verified"),
                 };
                 let Diagnosis { words, shown } = self.diagnosis(*refusal, source);
-                let first = format!("refused {}: {words}; {before}", refusal.number());
+                let first = format!("refused {}: {words}; {before}{any_uri}", refusal.number());
                 [vec![first], shown].concat().join("\n")
             }
+        }
+    }
+
+    /// What the last word says of the user's choice to take any URI.
+    fn any_uri(&self) -> String {
+        match self.taken_uri.as_deref() {
+            None => String::new(),
+            Some(b"") => "; any URI was taken (--any-uri)".to_string(),
+            Some(uri) => format!("; any URI was taken (--any-uri), and the head gives `{}`", printable(uri, MOST_URI)),
         }
     }
 
@@ -124,6 +150,7 @@ impl Sitting {
             let bytes = source.recent(section.start, section.length)?;
             Some(diagnosis::of(section, bytes, at))
         });
-        found.unwrap_or_else(|| Diagnosis { words: refusal.to_string(), shown: Vec::new() })
+        let in_words = || self.other_show.clone().unwrap_or_else(|| refusal.to_string());
+        found.unwrap_or_else(|| Diagnosis { words: in_words(), shown: Vec::new() })
     }
 }

@@ -1,10 +1,11 @@
 //! The words that the program is given.
 
 use std::ffi::OsString;
+use std::os::unix::ffi::OsStringExt;
 use std::path::PathBuf;
 
 pub const USAGE: &str = "\
-usage: oui-fetch --ring RING [-o BODY] [--json] [--quiet] [STREAM]
+usage: oui-fetch --ring RING (--uri URI | --any-uri) [-o BODY] [--json] [--quiet] [STREAM]
 
 Reads a signed stream (Ouinet's format, version 4) from the file STREAM or from standard input, verifies every signature with
 Ed25519, and writes the body to the file BODY or to standard output, each block as soon as it is verified. Bytes that are not
@@ -12,13 +13,19 @@ verified are never written: a stream that is cut off or changed on its way leave
 
   --ring RING   whom to trust: a line for each key, at most 16: the key in base64, the first and the last second in which it
                 is trusted, with one space between
+  --uri URI     which show is asked for: a stream whose X-Ouinet-URI differs from this in any byte, the case of letters
+                included, is another show and is refused, whoever signed it
+  --any-uri     take the show that comes, whatever its URI; the last word then says so
   -o BODY       where the body goes; a file that is there is written anew
   --json        a line of JSON for each event, on standard output; the body then needs -o
   --quiet       no progress and no last word on standard error
   --help        this text
 
+One of --uri and --any-uri must be given.
+
 The last word is 'closed', or 'refused' with the number and the meaning of the refusal. 'closed' says that the stream ended as
 it should; version 4 does not mark the last block, so nobody can tell by the stream alone whether the show is whole.
+Of another show (refusal 16) the last word has the URI asked for and the one that came, which nobody has verified.
 Where a text is wrong (refusals 3 and 6) the last word has its offset in the stream, counted from 0, and the line is shown under it
 with a mark at the byte. What is not printable ASCII is escaped there.
 
@@ -31,7 +38,8 @@ The lines of --json:
   {\"event\":\"closed\",\"total\":12}
   {\"event\":\"refused\",\"number\":11,\"meaning\":\"the stream stops before its end\",\"at\":null,\"stream_offset\":null}
 With refusals 3 and 6, at is where the text of the head, chunk line, data end or trailer goes wrong, counted from its first byte, or
-its length as far as it was taken; stream_offset is where in the stream that is.";
+its length as far as it was taken; stream_offset is where in the stream that is. With refusal 16 there are two more, asked and got: the
+URI asked for and the one that came. With --any-uri the last event has \"any_uri\":true.";
 
 /// What the program is asked to do.
 pub enum Asked {
@@ -39,8 +47,17 @@ pub enum Asked {
     Fetch(Options),
 }
 
+/// Which show is asked for.
+pub enum Wanted {
+    /// The one of this URI, which may hold any bytes.
+    Uri(Vec<u8>),
+    /// The one that comes.
+    Any,
+}
+
 pub struct Options {
     pub ring: PathBuf,
+    pub wanted: Wanted,
     /// Standard input if not given.
     pub stream: Option<PathBuf>,
     /// Standard output if not given.
@@ -52,6 +69,7 @@ pub struct Options {
 impl Options {
     pub fn parse(words: &[OsString]) -> Result<Asked, String> {
         let (mut ring, mut stream, mut body, mut json, mut quiet) = (None, None, None, false, false);
+        let (mut uri, mut any_uri) = (None, false);
         let mut words = words.iter();
         while let Some(word) = words.next() {
             match word.to_str() {
@@ -59,6 +77,8 @@ impl Options {
                 Some("--json") => json = true,
                 Some("--quiet" | "-q") => quiet = true,
                 Some("--ring" | "-r") => set(&mut ring, words.next(), "--ring")?,
+                Some("--uri") => set(&mut uri, words.next(), "--uri")?,
+                Some("--any-uri") => any_uri = true,
                 Some("-o") => set(&mut body, words.next(), "-o")?,
                 Some(option) if option.starts_with('-') && option != "-" => {
                     return Err(format!("no option {option}; see oui-fetch --help"))
@@ -67,19 +87,36 @@ impl Options {
             }
         }
         let ring = ring.ok_or("a key ring is needed: --ring RING; see oui-fetch --help")?;
+        let wanted = Wanted::of(uri, any_uri)?;
         let not_dash = |path: &PathBuf| path.as_os_str() != "-";
         let body = body.filter(not_dash);
         if json && body.is_none() {
             return Err("with --json the body needs a file: -o BODY".to_string());
         }
-        Ok(Asked::Fetch(Options { ring, stream: stream.filter(not_dash), body, json, quiet }))
+        Ok(Asked::Fetch(Options { ring, wanted, stream: stream.filter(not_dash), body, json, quiet }))
+    }
+}
+
+impl Wanted {
+    /// Just one of the two must be given.
+    fn of(uri: Option<OsString>, any: bool) -> Result<Self, String> {
+        match (uri, any) {
+            (None, true) => Ok(Wanted::Any),
+            (Some(uri), false) if uri.is_empty() => Err("--uri is empty, and no show has an empty URI".to_string()),
+            (Some(uri), false) => Ok(Wanted::Uri(uri.into_vec())),
+            (Some(_), true) => Err("either --uri or --any-uri, not both; see oui-fetch --help".to_string()),
+            (None, false) => {
+                Err("which show is asked for? --uri URI, or --any-uri for whatever comes; see oui-fetch --help"
+                    .to_string())
+            }
+        }
     }
 }
 
 /// Sets what may be given once.
-fn set(place: &mut Option<PathBuf>, word: Option<&OsString>, name: &str) -> Result<(), String> {
+fn set<T: From<OsString>>(place: &mut Option<T>, word: Option<&OsString>, name: &str) -> Result<(), String> {
     let word = word.ok_or_else(|| format!("{name} needs a value; see oui-fetch --help"))?;
-    if place.replace(PathBuf::from(word)).is_some() {
+    if place.replace(T::from(word.clone())).is_some() {
         return Err(format!("{name} is given twice; see oui-fetch --help"));
     }
     Ok(())

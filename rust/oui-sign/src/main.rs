@@ -25,7 +25,9 @@ usage:
       writes FILE as a signed stream (version 4), from standard input and to standard output unless told otherwise
 
 A line of a ring trusts the key from the first to the last second; these are 0 and 4102444800 (the year 2100) unless told
-otherwise. A block has 65536 bytes, the time is now, and the id is drawn at random unless told otherwise.
+otherwise. A block has 65536 bytes, the time is now, the id is drawn at random, the type is application/octet-stream and the URI
+https://example.com/show unless told otherwise. The URI is what the show is asked for by, byte for byte; it is not empty, has no blanks
+at its ends and no control characters.
 Each --header is a further field of the head, and is signed; a name may come several times. Content-Type is set by --type.
 A name that begins X-Ouinet- or is Content-Length or Transfer-Encoding cannot be given.
 KEYFILE is secret: whoever has it signs in your name.";
@@ -101,6 +103,8 @@ fn sign(show: Show, signer: sodium::Signer, source: Option<&str>, target: Option
     match show::write(plan, input, out) {
         Ok(()) => Ok(()),
         Err(show::Fault::Read(error)) => Err(failed(source_name.unwrap_or("standard input"), error)),
+        // A reader that has seen enough closes the pipe; that is no fault
+        Err(show::Fault::Write(error)) if error.kind() == io::ErrorKind::BrokenPipe => Ok(()),
         Err(show::Fault::Write(error)) => Err(failed(target_name.unwrap_or("standard output"), error)),
         Err(show::Fault::TooLong) => {
             let name = source_name.unwrap_or("standard input");

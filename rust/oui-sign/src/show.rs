@@ -54,7 +54,7 @@ impl Show {
             check_value(name, value)?;
         }
         if self.uri.is_empty() {
-            return Err("--uri must not be empty".to_string());
+            return Err("--uri must not be empty: no reader takes a head without a URI".to_string());
         }
         Ok(())
     }

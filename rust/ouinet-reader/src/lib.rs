@@ -20,10 +20,14 @@
 //! let ending = run(
 //!     File::open("stream")?,
 //!     ring,
+//!     "https://example.com/south", // the show that was asked for
 //!     |question: &Question| ed25519_verify(question.key, question.message, question.signature),
-//!     |_, event| {
+//!     |reader, event| {
 //!         if let Event::Block { bytes, .. } = event {
 //!             body.extend_from_slice(bytes);
+//!         }
+//!         if let Some(sentence) = reader.another_show() {
+//!             println!("{sentence}");
 //!         }
 //!         Ok::<(), std::io::Error>(())
 //!     },
@@ -66,7 +70,7 @@
 //!         }
 //!     }
 //! }
-//! # let mut reader = Reader::new(ouinet_reader::Ring::empty());
+//! # let mut reader = Reader::new(ouinet_reader::Ring::empty(), "");
 //! # let mut body = Vec::new();
 //! # assert_eq!(piece_came(&mut reader, b"HTTP/1.1 200 OK\r\n", &mut body, |_, _, _| true), Ok(false));
 //! # assert_eq!(piece_came(&mut reader, b"\r\n", &mut body, |_, _, _| true), Ok(true));
@@ -79,12 +83,28 @@
 //! ```
 //! use ouinet_reader::{Event, Reader, Refusal, Ring, SectionKind};
 //!
-//! let mut reader = Reader::new(Ring::empty());
+//! let mut reader = Reader::new(Ring::empty(), "https://example.com/south");
 //! let fed = reader.feed(b"HTTP/1.1 200 OK\r\nDate : now\r\n\r\n").expect("in turn");
 //! assert_eq!(fed.event, Some(Event::Refused(Refusal::BadHead { at: 21 }))); // the space after `Date`
 //! let section = reader.refused_section().expect("a section");
 //! assert_eq!((section.kind, section.start, section.length), (SectionKind::Head, 0, 31));
 //! ```
+//!
+//! # Which show it is
+//!
+//! A signature says who signed a show, not that it is the one that was wanted. So the reader is told the URI asked for, and refuses a
+//! head with any other before it asks about a signature. What came instead can be told to the user:
+//!
+//! ```
+//! use ouinet_reader::another_show;
+//!
+//! assert_eq!(
+//!     another_show(b"https://example.com/south", b"https://example.com/north"),
+//!     "this is another show: asked for `https://example.com/south`, got `https://example.com/north`"
+//! );
+//! ```
+//!
+//! A program in which any show will do, because its user says so, reads the head beforehand and hands in what [`head_uri`] finds there.
 //!
 //! # What *closed* means
 //!
@@ -102,6 +122,7 @@ mod refusal;
 mod ring;
 mod run;
 mod section;
+mod uri;
 
 pub use event::{Event, Question};
 pub use reader::{Fed, NotDue, Reader};
@@ -109,3 +130,4 @@ pub use refusal::Refusal;
 pub use ring::{Record, Ring, RingFault, MOST_RECORDS};
 pub use run::{run, Ending, RunError};
 pub use section::{Section, SectionKind};
+pub use uri::{another_show, head_uri, printable};

@@ -63,6 +63,8 @@ extern "C" {
         question_len: usize,
         ring: *const u8,
         ring_len: usize,
+        uri: *const u8,
+        uri_len: usize,
         piece: *const u8,
         piece_len: usize,
         result: *mut u8,
@@ -134,8 +136,9 @@ pub fn fresh(state: &mut [u8]) -> u8 {
     unsafe { ouinet_reader_fresh(state.as_mut_ptr(), state.len()) }
 }
 
-/// Feeds a piece. Returns the word, which the result holds too, or [`SHORT`].
-pub fn feed(lent: &mut Lent, ring: &[u8], piece: &[u8]) -> u8 {
+/// Feeds a piece. Ring and URI are read only when the head is judged; the URI asked for may have any length and hold any bytes.
+/// Returns the word, which the result holds too, or [`SHORT`].
+pub fn feed(lent: &mut Lent, ring: &[u8], uri: &[u8], piece: &[u8]) -> u8 {
     // SAFETY: each pointer and the length after it are those of a slice. The exclusive ones overlap nothing, which their
     // borrows ensure. The library keeps no pointer, and reads and writes within these lengths for any bytes in them.
     unsafe {
@@ -150,6 +153,8 @@ pub fn feed(lent: &mut Lent, ring: &[u8], piece: &[u8]) -> u8 {
             lent.question.len(),
             ring.as_ptr(),
             ring.len(),
+            uri.as_ptr(),
+            uri.len(),
             piece.as_ptr(),
             piece.len(),
             lent.result.as_mut_ptr(),

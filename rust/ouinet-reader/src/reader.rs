@@ -5,6 +5,7 @@ use crate::raw::{self, Lent, Outcome};
 use crate::refusal::Refusal;
 use crate::ring::Ring;
 use crate::section::Section;
+use crate::uri::{another_show, head_uri};
 use std::fmt;
 
 /// A call that came when it has no place: a feed or an end while a question is open, an answer while none is, or any call
@@ -29,10 +30,11 @@ pub struct Fed<'r> {
     pub event: Option<Event<'r>>,
 }
 
-/// A reader of one stream. It takes about 82 kB, whatever the length of the stream, and can be cloned at any time.
+/// A reader of one stream. It takes about 82 kB and the URI, whatever the length of the stream, and can be cloned at any time.
 #[derive(Clone)]
 pub struct Reader {
     ring: Ring,
+    uri: Box<[u8]>,
     state: [u8; raw::STATE_SIZE],
     result: [u8; raw::RESULT_SIZE],
     head: Box<[u8]>,
@@ -40,16 +42,20 @@ pub struct Reader {
     question: Box<[u8]>,
     taken: u64,
     refused: Option<Section>,
+    offered: Option<Box<[u8]>>,
 }
 
 impl Reader {
-    /// A reader that waits for a stream's first byte.
-    pub fn new(ring: Ring) -> Self {
+    /// A reader that waits for a stream's first byte. It trusts the keys of this ring, and takes the show of this URI alone: a head
+    /// whose `X-Ouinet-URI` differs from it in any byte is refused with [`Refusal::OtherUri`]. The spaces and tabs around the head's
+    /// value do not count; the URI given here is compared as it is, in its own case, with any blanks or line ends that it has.
+    pub fn new(ring: Ring, uri: impl Into<Vec<u8>>) -> Self {
         let mut state = [0; raw::STATE_SIZE];
         let done = raw::fresh(&mut state);
         assert_eq!(done, 0, "the linked library wants a longer state than this crate was written for");
         Reader {
             ring,
+            uri: uri.into().into(),
             state,
             result: [0; raw::RESULT_SIZE],
             head: vec![0; raw::HEAD_SIZE].into(),
@@ -57,18 +63,22 @@ impl Reader {
             question: vec![0; raw::QUESTION_SIZE].into(),
             taken: 0,
             refused: None,
+            offered: None,
         }
     }
 
     /// Feeds bytes of the stream, in a piece of any length. They are taken up to the first event, or all.
     pub fn feed(&mut self, piece: &[u8]) -> Result<Fed<'_>, NotDue> {
         let before = self.state;
-        let (mut lent, ring) = self.lend();
-        raw::feed(&mut lent, ring.as_bytes(), piece);
+        self.feed_raw(piece);
         let taken = Outcome::of(&self.result).taken as usize;
         self.taken += taken as u64;
-        if let Ok(Some(Event::Refused(Refusal::BadHead { .. } | Refusal::BadFrame { .. }))) = self.event() {
-            self.refused = self.locate(before, &piece[..taken]);
+        match self.event() {
+            Ok(Some(Event::Refused(Refusal::BadHead { .. } | Refusal::BadFrame { .. }))) => {
+                self.refused = self.locate(before, &piece[..taken]);
+            }
+            Ok(Some(Event::Refused(Refusal::OtherUri))) => self.offered = head_uri(&self.head).map(Box::from),
+            _ => (),
         }
         Ok(Fed { taken, event: self.event()? })
     }
@@ -119,6 +129,22 @@ impl Reader {
         self.refused
     }
 
+    /// The URI that the head gives, after [`Refusal::OtherUri`]; else nothing. It is not verified, and good for a message alone.
+    pub fn offered_uri(&self) -> Option<&[u8]> {
+        self.offered.as_deref()
+    }
+
+    /// A sentence for the person who waits, after [`Refusal::OtherUri`]; else nothing: what was asked for and what came, as
+    /// [`another_show`] has it.
+    pub fn another_show(&self) -> Option<String> {
+        self.offered_uri().map(|offered| another_show(&self.uri, offered))
+    }
+
+    /// The URI that the reader was made with.
+    pub fn uri(&self) -> &[u8] {
+        &self.uri
+    }
+
     /// The key ring that the reader was made with.
     pub fn ring(&self) -> &Ring {
         &self.ring
@@ -130,13 +156,17 @@ impl Reader {
     fn locate(&self, before: [u8; raw::STATE_SIZE], taken: &[u8]) -> Option<Section> {
         let (_, rest) = taken.split_last()?;
         let mut again = Reader { state: before, ..self.clone() };
-        let (mut lent, ring) = again.lend();
-        raw::feed(&mut lent, ring.as_bytes(), rest);
+        again.feed_raw(rest);
         Section::under_way(&again.state, self.taken)
     }
 
-    /// The buffers for a call, and the ring.
-    fn lend(&mut self) -> (Lent<'_>, &Ring) {
+    fn feed_raw(&mut self, piece: &[u8]) {
+        let (mut lent, ring, uri) = self.lend();
+        raw::feed(&mut lent, ring.as_bytes(), uri, piece);
+    }
+
+    /// The buffers for a call, the ring, and the URI asked for.
+    fn lend(&mut self) -> (Lent<'_>, &Ring, &[u8]) {
         let lent = Lent {
             state: &mut self.state,
             head: &mut self.head,
@@ -144,7 +174,7 @@ impl Reader {
             question: &mut self.question,
             result: &mut self.result,
         };
-        (lent, &self.ring)
+        (lent, &self.ring, &self.uri)
     }
 
     /// The event in the last call's result. Refusals 1 and 2 are none; 2 would be about buffers that this crate makes.
@@ -178,6 +208,7 @@ impl Reader {
 
 impl fmt::Debug for Reader {
     fn fmt(&self, out: &mut fmt::Formatter) -> fmt::Result {
-        out.debug_struct("Reader").field("ring", &self.ring).finish_non_exhaustive()
+        let uri = self.uri.escape_ascii().to_string();
+        out.debug_struct("Reader").field("ring", &self.ring).field("uri", &uri).finish_non_exhaustive()
     }
 }

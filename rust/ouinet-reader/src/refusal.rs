@@ -40,10 +40,13 @@ pub enum Refusal {
     Unfinished,
     /// 12: the key is not trusted at the stream's time.
     Untrusted,
+    /// 16: the head is another URI's than the one asked for. It is tested after all of 3, 4 and 5 and before 12, and before any
+    /// signature: [`Reader::offered_uri`](crate::Reader::offered_uri) then has the head's, unverified.
+    OtherUri,
 }
 
 impl Refusal {
-    /// The specification's number, from 3 to 12.
+    /// The specification's number, from 3 to 12, or 16.
     pub fn number(self) -> u8 {
         match self {
             Refusal::BadHead { .. } => 3,
@@ -56,6 +59,7 @@ impl Refusal {
             Refusal::BadSignature => 10,
             Refusal::Unfinished => 11,
             Refusal::Untrusted => 12,
+            Refusal::OtherUri => 16,
         }
     }
 
@@ -80,6 +84,7 @@ impl Refusal {
             (10, 0) => Refusal::BadSignature,
             (11, 0) => Refusal::Unfinished,
             (12, 0) => Refusal::Untrusted,
+            (16, 0) => Refusal::OtherUri,
             _ => return None,
         })
     }
@@ -101,6 +106,7 @@ impl Refusal {
             Refusal::BadSignature => "a signature is wrong: the stream was changed on its way, or not signed with this key",
             Refusal::Unfinished => "the stream stops before its end",
             Refusal::Untrusted => "the key is not trusted: no record of the ring has it at the stream's time",
+            Refusal::OtherUri => "this is another show than the one asked for: the head has another URI",
         }
     }
 }
@@ -122,7 +128,7 @@ mod tests {
 
     #[test]
     fn numbers_and_refusals_fit() {
-        for number in 3..=12 {
+        for number in (3..=12).chain([16]) {
             for place in [0, 1, 8192, u64::MAX] {
                 let has_place = number == 3 || number == 6;
                 match Refusal::from_numbers(number, place) {
@@ -134,7 +140,7 @@ mod tests {
                 }
             }
         }
-        for none in [0, 1, 2, 13, 255, 259, u64::MAX] {
+        for none in [0, 1, 2, 13, 15, 17, 255, 259, 272, u64::MAX] {
             assert_eq!(Refusal::from_numbers(none, 0), None);
         }
     }

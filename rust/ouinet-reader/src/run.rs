@@ -51,16 +51,18 @@ impl<E: std::error::Error + 'static> std::error::Error for RunError<E> {
 
 /// Reads a stream to its last event, or to the end of the source.
 ///
-/// `verify` answers each question: whether the signature over the message belongs to the key. `on` is called for every
-/// event in order, questions included (each before `verify`), with the reader beside it for [`Reader::value`] and
-/// [`Reader::refused_section`]. An error of `on` ends the run. No byte behind the last event is looked at, though the source may have given some.
+/// `ring` and `uri` say whom to trust and which show was asked for; see [`Reader::new`]. `verify` answers each question: whether the
+/// signature over the message belongs to the key. `on` is called for every event in order, questions included (each before
+/// `verify`), with the reader beside it for [`Reader::value`], [`Reader::refused_section`] and [`Reader::another_show`]. An error of
+/// `on` ends the run. No byte behind the last event is looked at, though the source may have given some.
 pub fn run<E>(
     mut source: impl Read,
     ring: Ring,
+    uri: impl Into<Vec<u8>>,
     verify: impl FnMut(&Question<'_>) -> bool,
     on: impl FnMut(&Reader, &Event<'_>) -> Result<(), E>,
 ) -> Result<Ending, RunError<E>> {
-    let mut sitting = Sitting { reader: Reader::new(ring), verify, on };
+    let mut sitting = Sitting { reader: Reader::new(ring, uri), verify, on };
     let mut buffer = vec![0; MOST_PIECE];
     loop {
         let count = read_some(&mut source, &mut buffer).map_err(RunError::Read)?;

@@ -4,6 +4,7 @@ use ouinet_reader::{run, Ending, Event, NotDue, Reader, Refusal, Ring, RunError}
 use std::io::{self, Read};
 
 const STREAM: &[u8] = include_bytes!("../../../crates/ouiread/data/stream");
+const URI: &[u8] = include_bytes!("../../../crates/ouiread/data/uri");
 const RING: &[u8] = include_bytes!("../../../crates/ouiread/data/ring");
 const LINES: &str = include_str!("../../../crates/ouiread/stdout");
 
@@ -54,7 +55,7 @@ fn read(source: impl Read, good: usize) -> (String, Vec<u8>, Ending) {
         asked += 1;
         asked <= good
     };
-    let ending = run(source, ring(), verify, |reader, event| {
+    let ending = run(source, ring(), URI, verify, |reader, event| {
         lines.push_str(&line(event));
         if let Event::Block { bytes, .. } = event {
             assert_eq!(reader.block(), *bytes);
@@ -103,13 +104,13 @@ fn a_stream_that_stops_is_refused() {
 
 #[test]
 fn an_empty_ring_trusts_nobody() {
-    let ending = run(STREAM, Ring::empty(), |_| true, |_, _| Ok::<(), ()>(()));
+    let ending = run(STREAM, Ring::empty(), URI, |_| true, |_, _| Ok::<(), ()>(()));
     assert_eq!(ending.expect("no fault"), Ending::Refused(Refusal::Untrusted));
 }
 
 #[test]
 fn questions_carry_what_a_verifier_needs() {
-    let mut reader = Reader::new(ring());
+    let mut reader = Reader::new(ring(), URI);
     let fed = reader.feed(STREAM).expect("in turn");
     let Some(Event::Question(question)) = fed.event else { panic!("no question") };
     assert_eq!(question.key, &ring().records()[0].key);
@@ -122,7 +123,7 @@ fn questions_carry_what_a_verifier_needs() {
 
 #[test]
 fn values_of_the_accepted_head() {
-    let mut reader = Reader::new(ring());
+    let mut reader = Reader::new(ring(), URI);
     reader.feed(STREAM).expect("in turn");
     assert_eq!((reader.value("Content-Type"), reader.value_count("Content-Type")), (b"".to_vec(), 0));
     assert_eq!(reader.answer(true), Ok(Event::HeadAccepted { status: 200 }));
@@ -136,7 +137,7 @@ fn values_of_the_accepted_head() {
 
 #[test]
 fn calls_out_of_turn_change_nothing() {
-    let mut reader = Reader::new(ring());
+    let mut reader = Reader::new(ring(), URI);
     assert_eq!(reader.answer(true), Err(NotDue));
     let taken = reader.feed(STREAM).expect("in turn").taken;
     assert_eq!(reader.feed(b"x"), Err(NotDue));
@@ -155,7 +156,7 @@ fn calls_out_of_turn_change_nothing() {
 
 #[test]
 fn an_error_of_the_handler_ends_the_run() {
-    let stopped = run(STREAM, ring(), |_| true, |_, event| if event.is_final() { Err("enough") } else { Ok(()) });
+    let stopped = run(STREAM, ring(), URI, |_| true, |_, event| if event.is_final() { Err("enough") } else { Ok(()) });
     assert!(matches!(stopped, Err(RunError::Stopped("enough"))));
     struct Broken;
     impl Read for Broken {
@@ -163,6 +164,6 @@ fn an_error_of_the_handler_ends_the_run() {
             Err(io::ErrorKind::ConnectionReset.into())
         }
     }
-    let failed = run(Broken, ring(), |_| true, |_, _| Ok::<(), ()>(()));
+    let failed = run(Broken, ring(), URI, |_| true, |_, _| Ok::<(), ()>(()));
     assert!(matches!(failed, Err(RunError::Read(error)) if error.kind() == io::ErrorKind::ConnectionReset));
 }

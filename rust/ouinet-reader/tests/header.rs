@@ -57,6 +57,7 @@ fn refusals() {
         ("BAD_SIGNATURE", Refusal::BadSignature),
         ("UNFINISHED", Refusal::Unfinished),
         ("UNTRUSTED", Refusal::Untrusted),
+        ("OTHER_URI", Refusal::OtherUri),
     ] {
         assert_eq!(defined(name), u64::from(refusal.number()), "{name}");
     }

@@ -4,6 +4,7 @@
 use ouinet_reader::{raw, Event, Reader, Refusal, Ring};
 
 const STREAM: &[u8] = include_bytes!("../../../crates/ouiread/data/stream");
+const URI: &[u8] = include_bytes!("../../../crates/ouiread/data/uri");
 const RING: &[u8] = include_bytes!("../../../crates/ouiread/data/ring");
 const PIECES: [usize; 4] = [1, 3, 100, 65_536];
 /// How many fields the example's head has.
@@ -21,7 +22,7 @@ fn head_with(lines: &str, listed: &str) -> Vec<u8> {
 
 /// A reader that was fed the head in pieces, and its last word.
 fn fed(head: &[u8], piece: usize) -> (Reader, Option<Refusal>) {
-    let mut reader = Reader::new(Ring::parse(RING).expect("a good ring"));
+    let mut reader = Reader::new(Ring::parse(RING).expect("a good ring"), URI);
     let mut refused = None;
     for piece in head.chunks(piece) {
         match reader.feed(piece).expect("in turn").event {
@@ -35,7 +36,7 @@ fn fed(head: &[u8], piece: usize) -> (Reader, Option<Refusal>) {
 
 /// The message of the question about a head.
 fn message(head: &[u8]) -> String {
-    let mut reader = Reader::new(Ring::parse(RING).expect("a good ring"));
+    let mut reader = Reader::new(Ring::parse(RING).expect("a good ring"), URI);
     match reader.feed(head).expect("in turn").event {
         Some(Event::Question(question)) => String::from_utf8(question.message.to_vec()).expect("text"),
         other => panic!("{other:?}"),
@@ -99,7 +100,7 @@ fn no_count_from_short_buffers() {
     raw::fresh(&mut state);
     let [head_hold, block, question] = &mut holds;
     let mut lent = raw::Lent { state: &mut state, head: head_hold, block, question, result: &mut result };
-    assert_eq!(raw::feed(&mut lent, ring.as_bytes(), &head), raw::QUESTION);
+    assert_eq!(raw::feed(&mut lent, ring.as_bytes(), URI, &head), raw::QUESTION);
     assert_eq!(raw::value_count(lent.state, lent.head, b"vary"), 0);
     assert_eq!(raw::answer(&mut lent, 1), raw::HEAD);
     assert_eq!(raw::value_count(lent.state, lent.head, b"vary"), 2);

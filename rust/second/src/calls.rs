@@ -1,9 +1,9 @@
 //! How a list of calls is read (paper 01, "The plain reading", second part; "How a sitting goes"
 //! for the times of the handed-out parts; the table for refusals 1 and 2; request #102 for the count
-//! of a field's lines): feeds, answers and ends, with the lengths of the holds that each is lent.
-//! Nothing is kept but the bytes taken, the answers given, whether the end was told and the ring that
-//! judged the head; each call does the plain reading anew. That is slow for long streams in tiny
-//! pieces and plain to follow.
+//! of a field's lines, request #105 for the URI asked for): feeds, answers and ends, with the lengths
+//! of the holds that each is lent. Nothing is kept but the bytes taken, the answers given, whether the
+//! end was told, and the ring and URI that judged the head; each call does the plain reading anew.
+//! That is slow for long streams in tiny pieces and plain to follow.
 
 use crate::event::{Event, Question, Refusal};
 use crate::head::Signed;
@@ -105,8 +105,8 @@ pub struct Calls {
     bytes: Vec<u8>,
     answers: Vec<bool>,
     told: bool,
-    /// The ring lent to the feed that brought the first event: the head is judged only there.
-    ring: Option<Vec<Record>>,
+    /// The ring and the URI lent to the feed that brought the first event: the head is judged only there.
+    judges: Option<(Vec<Record>, Vec<u8>)>,
     /// Whether the last call that was not refused by 1 or 2 was a yes that released a block, and
     /// where the block lies in the bytes taken.
     block: Option<Range<usize>>,
@@ -122,8 +122,8 @@ impl Calls {
         &self.bytes
     }
 
-    /// A feed of a piece.
-    pub fn feed(&mut self, holds: Holds, ring: &[Record], piece: &[u8]) -> Outcome {
+    /// A feed of a piece. The URI asked for may have any length.
+    pub fn feed(&mut self, holds: Holds, ring: &[Record], asked: &[u8], piece: &[u8]) -> Outcome {
         if !holds.are_enough() || ring.len() > MOST_RECORDS {
             return Outcome::refused(2);
         }
@@ -132,10 +132,10 @@ impl Calls {
             return Outcome::refused(1);
         }
         self.block = None;
-        let ring = self.ring.clone().unwrap_or_else(|| ring.to_vec());
+        let judges = self.judges.clone().unwrap_or_else(|| (ring.to_vec(), asked.to_vec()));
         let mut longer = self.bytes.clone();
         longer.extend_from_slice(piece);
-        let after = plain::read(&longer, &ring, &self.answers, self.told);
+        let after = plain::read(&longer, &judges.0, &judges.1, &self.answers, self.told);
         let Some(gained) = after.events.get(before.events.len()) else {
             self.bytes = longer;
             return Outcome { word: Word::More, taken: piece.len() };
@@ -144,7 +144,7 @@ impl Calls {
         let taken = gained.place - self.bytes.len();
         longer.truncate(gained.place);
         self.bytes = longer;
-        self.ring = Some(ring);
+        self.judges = Some(judges);
         Outcome { word: gained.event.clone().into(), taken }
     }
 
@@ -231,8 +231,8 @@ impl Calls {
 
     /// The plain reading of all that was taken, answered and told.
     pub fn reading(&self) -> Reading {
-        let ring = self.ring.as_deref().unwrap_or(&[]);
-        plain::read(&self.bytes, ring, &self.answers, self.told)
+        let (ring, asked) = self.judges.as_ref().map_or((&[][..], &[][..]), |(ring, asked)| (&ring[..], &asked[..]));
+        plain::read(&self.bytes, ring, asked, &self.answers, self.told)
     }
 
     /// The word for the event that the reading has gained, and the block that it released.

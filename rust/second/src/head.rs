@@ -1,6 +1,6 @@
 //! The head: from the first byte of the stream to the first CR LF CR LF. It is judged once, whole.
 //! The rules are those of paper 01, "The head", points of whose list are cited by their first words, and for a name that
-//! comes in several lines those of request #102.
+//! comes in several lines those of request #102, and for the URI that the caller asked for those of request #105.
 
 use crate::base64;
 use crate::event::Refusal;
@@ -53,9 +53,9 @@ impl Head {
     }
 }
 
-/// Judges a whole head, CR LF CR LF included: first all that is 3, then 4 and 5 in the order of the paper's list, then 12
-/// (opening words of the section).
-pub fn judge(bytes: &[u8], ring: &[Record]) -> Result<Head, Refusal> {
+/// Judges a whole head, CR LF CR LF included: first all that is 3, then 4 and 5 in the order of the paper's list, then 16, "after
+/// all of 4 and 5 and before 12" (#105), then 12 (opening words of the section). `asked` is the URI that the caller asked for.
+pub fn judge(bytes: &[u8], ring: &[Record], asked: &[u8]) -> Result<Head, Refusal> {
     let text = HeadText::judge(bytes)?;
     match text.value(b"X-Ouinet-Version") {
         None => return Err(Refusal::plain(4)),
@@ -63,6 +63,10 @@ pub fn judge(bytes: &[u8], ring: &[Record]) -> Result<Head, Refusal> {
         Some(_) => return Err(Refusal::plain(5)),
     }
     let rules = Rules::check(&text).ok_or(Refusal::plain(4))?;
+    // The field's value has lost its blanks; the asked bytes keep theirs, and no case is folded
+    if rules.uri != asked {
+        return Err(Refusal::plain(16));
+    }
     let record = ring::look_up(ring, &rules.sig0.key, rules.injection.ts).ok_or(Refusal::plain(12))?;
     if rules.bsigs.key != rules.sig0.key {
         return Err(Refusal::plain(12));
@@ -165,6 +169,11 @@ pub fn is_good(bytes: &[u8]) -> bool {
     HeadText::parse(bytes).is_some()
 }
 
+/// The URI that a head gives, if its text is good and it has one. Nobody has vouched for it.
+pub fn uri(bytes: &[u8]) -> Option<&[u8]> {
+    HeadText::parse(bytes)?.value(b"X-Ouinet-URI")
+}
+
 /// Where a whole head, CR LF CR LF included, went wrong: in its status line, or behind it.
 fn place(bytes: &[u8]) -> usize {
     let status_line = text::find(bytes, b"\r\n").map_or(bytes.len(), |end| end + 2);
@@ -188,6 +197,7 @@ fn is_status_line(line: &[u8]) -> bool {
 
 /// What the head rules of refusal 4 find, after the version ("Status 200" and all points below it).
 struct Rules<'a> {
+    uri: &'a [u8],
     injection: Injection<'a>,
     bsigs: BSigs,
     sig0: Sig0<'a>,
@@ -200,15 +210,15 @@ impl<'a> Rules<'a> {
         let status_is_right = [200, 301, 302, 307].contains(&text.status());
         let chunked = text.value(b"Transfer-Encoding")?.eq_ignore_ascii_case(b"chunked");
         let has_length = text.value(b"Content-Length").is_some();
-        let has_uri = !text.value(b"X-Ouinet-URI")?.is_empty();
-        if !status_is_right || !chunked || has_length || !has_uri {
+        let uri = text.value(b"X-Ouinet-URI")?;
+        if !status_is_right || !chunked || has_length || uri.is_empty() {
             return None;
         }
         let injection = Injection::parse(text.value(b"X-Ouinet-Injection")?)?;
         let bsigs = BSigs::parse(text.value(b"X-Ouinet-BSigs")?)?;
         let sig0 = Sig0::parse(text.value(b"X-Ouinet-Sig0")?)?;
         let listed = listed_fields(text, sig0.headers)?;
-        Some(Rules { injection, bsigs, sig0, listed })
+        Some(Rules { uri, injection, bsigs, sig0, listed })
     }
 }
 

@@ -1,10 +1,11 @@
-//! A second reader for version 4 signature streams, written from paper 01 and requests #102 and #106 alone.
+//! A second reader for version 4 signature streams, written from paper 01 and requests #102, #105 and #106 alone.
 //!
 //! It exists to be compared with the verified reader, so it shares nothing with it. The modules:
 //!
 //! * `sha512`, `base64`: the two codings the stream uses;
 //! * `text`: characters, trimming, field lines and numbers;
 //! * `ring`: the key ring;
+//! * `other_show`: what is said of a head with another URI than the one asked for;
 //! * `head`, `chunk`, `trailer`: one judge for each kind of text in a stream;
 //! * `place`: where a text went wrong, found by trying completions;
 //! * `message`: what a block's question asks about;
@@ -23,6 +24,7 @@ pub mod event;
 pub mod files;
 pub mod head;
 pub mod message;
+pub mod other_show;
 pub mod place;
 pub mod plain;
 pub mod reader;

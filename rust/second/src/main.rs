@@ -1,11 +1,13 @@
-//! `ouiread-second STREAM RING ANSWERS [CUTS [BODY]] [--where]`: reads a stream with a key ring and a list of
-//! answers and writes one line for each event. With `--where` the line of a refusal 3 or 6 says where the text went wrong. See
-//! `second` for the reading itself.
+//! `ouiread-second STREAM RING ANSWERS [CUTS [BODY]] --uri FILE [--where]`: reads a stream with a key ring and a list of
+//! answers and writes one line for each event. The bytes of the file after `--uri`, all of them, are the URI asked for; a
+//! line on standard error tells of a head that gives another. With `--where` the line of a refusal 3 or 6 says where the text
+//! went wrong. See `second` for the reading itself.
 
 #![forbid(unsafe_code)]
 
 use second::event::{Event, Refusal};
 use second::files::{self, AnswerFault, Answers, Fault};
+use second::head;
 use second::reader::Reader;
 use second::ring::Record;
 use std::ffi::OsString;
@@ -29,15 +31,35 @@ fn main() -> ExitCode {
     }
 }
 
-fn run(words: &[&Path]) -> Result<(), Complaint> {
-    let (paths, places) = match words.split_last() {
-        Some((last, before)) if last.as_os_str() == "--where" => (before, true),
-        _ => (words, false),
-    };
-    let is_option = |path: &&Path| path.as_os_str().as_encoded_bytes().starts_with(b"--");
-    if !(3..=5).contains(&paths.len()) || paths.iter().any(is_option) {
-        return Err("usage: ouiread-second STREAM RING ANSWERS [CUTS [BODY]] [--where]".to_string());
+/// What the program's words say: its files, in order, and the options after them.
+struct Words<'a> {
+    paths: &'a [&'a Path],
+    uri: &'a Path,
+    places: bool,
+}
+
+impl<'a> Words<'a> {
+    /// Options come in any order, each at most once. The word right after `--uri` is a file's name, whatever it looks like.
+    fn parse(words: &'a [&'a Path]) -> Option<Self> {
+        let is_option = |word: &&Path| word.as_os_str().as_encoded_bytes().starts_with(b"--");
+        let (paths, options) = words.split_at(words.iter().position(is_option)?);
+        let (mut uri, mut places) = (None, false);
+        let mut options = options.iter();
+        while let Some(option) = options.next() {
+            match option.to_str() {
+                Some("--where") if !places => places = true,
+                Some("--uri") if uri.is_none() => uri = Some(*options.next()?),
+                _ => return None,
+            }
+        }
+        (3..=5).contains(&paths.len()).then_some(Words { paths, uri: uri?, places })
     }
+}
+
+fn run(words: &[&Path]) -> Result<(), Complaint> {
+    let usage = "usage: ouiread-second STREAM RING ANSWERS [CUTS [BODY]] --uri FILE [--where]";
+    let Words { paths, uri, places } = Words::parse(words).ok_or(usage)?;
+    let asked = load_uri(uri)?;
     let ring = load_ring(paths[1])?;
     let answers = open_answers(paths[2])?;
     let cuts = match paths.get(3) {
@@ -56,7 +78,7 @@ fn run(words: &[&Path]) -> Result<(), Complaint> {
         answers_path: paths[2],
         body,
         body_path: paths.get(4).copied().unwrap_or(Path::new("")),
-        reader: Reader::new(ring),
+        reader: Reader::new(ring, asked),
         places,
     }
     .read_all(&cuts)
@@ -79,6 +101,14 @@ fn answer_failed(path: &Path, fault: AnswerFault) -> Complaint {
 
 fn open(path: &Path) -> Result<File, Complaint> {
     File::open(path).map_err(|error| failed(path, &error))
+}
+
+/// The bytes of the URI's file. A URI in a head is shorter than the head's limit, so a file that is not can hold anything after that.
+fn load_uri(path: &Path) -> Result<Vec<u8>, Complaint> {
+    let mut bytes = Vec::new();
+    let mut beginning = open(path)?.take(head::LIMIT as u64);
+    beginning.read_to_end(&mut bytes).map_err(|error| failed(path, &error))?;
+    Ok(bytes)
 }
 
 /// The beginning of a file, which holds all of it if the file is good.
@@ -179,7 +209,7 @@ impl Sitting<'_> {
         self.tell(event)
     }
 
-    /// One line to standard output; a released block goes to the body's file too.
+    /// One line to standard output; a released block goes to the body's file too, and another show is told of on standard error.
     fn write(&mut self, event: &Event) -> Result<(), Complaint> {
         if let (Event::Block { .. }, Some(file)) = (event, &mut self.body) {
             file.write_all(self.reader.block()).map_err(|error| failed(self.body_path, &error))?;
@@ -188,7 +218,11 @@ impl Sitting<'_> {
             Event::Refused(refusal) if !self.places => Refusal::plain(refusal.number).to_string(),
             _ => event.to_string(),
         };
-        writeln!(io::stdout(), "{line}").map_err(|error| failed(Path::new("standard output"), &error))
+        writeln!(io::stdout(), "{line}").map_err(|error| failed(Path::new("standard output"), &error))?;
+        if let Some(sentence) = self.reader.other_show() {
+            eprintln!("ouiread-second: {sentence}");
+        }
+        Ok(())
     }
 }
 

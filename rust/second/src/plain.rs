@@ -1,6 +1,7 @@
 //! The plain reading of paper 01, in the section of that name: from all the stream's bytes, the
-//! ring, the answers and whether the end was told, to the list of events with their places. It
-//! holds the whole stream in memory and knows nothing of pieces; `calls` is built on it.
+//! ring, the URI asked for (request #105: "one more fixed input"), the answers and whether the end
+//! was told, to the list of events with their places. It holds the whole stream in memory and knows
+//! nothing of pieces; `calls` is built on it.
 
 use crate::chunk::{self, Before};
 use crate::event::{Event, Question, Refusal};
@@ -53,14 +54,14 @@ impl Reading {
 }
 
 /// Reads the bytes.
-pub fn read(bytes: &[u8], ring: &[Record], answers: &[bool], told: bool) -> Reading {
+pub fn read(bytes: &[u8], ring: &[Record], asked: &[u8], answers: &[bool], told: bool) -> Reading {
     let mut walk = Walk {
         bytes,
         place: 0,
         answers: answers.iter(),
         reading: Reading { events: Vec::new(), sections: Vec::new(), accepted: None },
     };
-    match walk.stream(ring) {
+    match walk.stream(ring, asked) {
         Ok(total) => walk.list(Event::Closed { total }),
         Err(Stop::Refused(refusal)) => walk.list(Event::Refused(refusal)),
         // Where bytes ran out, all of them were gone over.
@@ -145,9 +146,9 @@ impl<'a> Walk<'a> {
     }
 
     /// The whole stream: head, body, trailer. Gives the body's total.
-    fn stream(&mut self, ring: &[Record]) -> Result<u64, Stop> {
+    fn stream(&mut self, ring: &[Record], asked: &[u8]) -> Result<u64, Stop> {
         let bytes = self.section_to(Kind::Head, head::END, head::LIMIT, Refusal::head)?;
-        let head = head::judge(bytes, ring).map_err(Stop::Refused)?;
+        let head = head::judge(bytes, ring, asked).map_err(Stop::Refused)?;
         self.ask(Question { message: head.signing_string.clone(), signature: head.signature, record: head.record })?;
         self.list(Event::HeadAccepted { status: head.status });
         self.reading.accepted = Some(head.clone());

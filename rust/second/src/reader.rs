@@ -5,6 +5,7 @@ use crate::chunk::{self, Before, ChunkLine};
 use crate::event::{Event, Question, Refusal};
 use crate::head::{self, Head};
 use crate::message;
+use crate::other_show;
 use crate::ring::Record;
 use crate::trailer;
 
@@ -80,6 +81,10 @@ impl Body {
 
 pub struct Reader {
     ring: Vec<Record>,
+    /// The URI that the caller asked for.
+    asked: Vec<u8>,
+    /// The URI that the head gives, once that is refused with 16.
+    other: Option<Vec<u8>>,
     stage: Stage,
     /// The bytes of the head, chunk line, data end or trailer that is under way.
     gathered: Vec<u8>,
@@ -87,8 +92,13 @@ pub struct Reader {
 }
 
 impl Reader {
-    pub fn new(ring: Vec<Record>) -> Self {
-        Reader { ring, stage: Stage::Head, gathered: Vec::new(), body: None }
+    pub fn new(ring: Vec<Record>, asked: Vec<u8>) -> Self {
+        Reader { ring, asked, other: None, stage: Stage::Head, gathered: Vec::new(), body: None }
+    }
+
+    /// After a refusal 16, a sentence for people: what was asked for, and what came.
+    pub fn other_show(&self) -> Option<String> {
+        self.other.as_ref().map(|other| other_show::sentence(&self.asked, other))
     }
 
     /// The released block, from its release to the next feed or end that is in time.
@@ -209,7 +219,7 @@ impl Reader {
     fn head_byte(&mut self) -> Option<Event> {
         if self.gathered.ends_with(head::END) {
             let bytes = std::mem::take(&mut self.gathered);
-            return Some(match head::judge(&bytes, &self.ring) {
+            return Some(match head::judge(&bytes, &self.ring, &self.asked) {
                 Ok(head) => {
                     let question = Question {
                         message: head.signing_string.clone(),
@@ -219,7 +229,10 @@ impl Reader {
                     self.stage = Stage::HeadAsked(head);
                     Event::Question(question)
                 }
-                Err(refusal) => self.refuse(refusal),
+                Err(refusal) => {
+                    self.other = head::uri(&bytes).filter(|_| refusal.number == 16).map(<[u8]>::to_vec);
+                    self.refuse(refusal)
+                }
             });
         }
         (self.gathered.len() == head::LIMIT).then(|| self.refuse(Refusal::head(head::LIMIT)))

@@ -25,6 +25,9 @@ const NINE_LINES: [&str; 9] = [
     "closed 12",
 ];
 
+/// The URI that is asked for.
+const URI: &[u8] = b"https://example.com/hello";
+
 const SIGNING_STRING: &str = "(response-status): 200\n\
     (created): 1584748800\n\
     x-ouinet-version: 4\n\
@@ -86,13 +89,13 @@ fn example() -> Vec<u8> {
 }
 
 fn plain_lines(stream: &[u8], answers: &[bool], told: bool) -> Vec<String> {
-    let reading = plain::read(stream, &ring(), answers, told);
+    let reading = plain::read(stream, &ring(), URI, answers, told);
     reading.events.iter().map(|placed| placed.event.to_string()).collect()
 }
 
 /// The lines of the piecewise reader, all yes, in pieces of this length, and the released bytes.
 fn reader_lines(stream: &[u8], step: usize) -> (Vec<String>, Vec<u8>) {
-    let mut reader = Reader::new(ring());
+    let mut reader = Reader::new(ring(), URI.to_vec());
     let (mut lines, mut body) = (Vec::new(), Vec::new());
     for piece in stream.chunks(step) {
         let mut rest = piece;
@@ -126,7 +129,7 @@ fn the_example_gives_the_nine_lines() {
 #[test]
 fn the_example_cut_short_or_refused() {
     let stream = example();
-    let full = plain::read(&stream, &ring(), &[true; 4], true);
+    let full = plain::read(&stream, &ring(), URI, &[true; 4], true);
     for length in 0..stream.len() {
         let mut expected: Vec<String> =
             full.events.iter().filter(|placed| placed.place <= length).map(|placed| placed.event.to_string()).collect();
@@ -187,7 +190,7 @@ fn p7_base64() {
 }
 
 fn judged(injection: &str, size: &str) -> Result<(), Refusal> {
-    head::judge(&head_with(injection, size), &ring()).map(|_| ())
+    head::judge(&head_with(injection, size), &ring(), URI).map(|_| ())
 }
 
 #[test]
@@ -207,7 +210,7 @@ fn p9_block_sizes() {
 
 #[test]
 fn p10_the_signing_string() {
-    let head = head::judge(&head(), &ring()).expect("a good head");
+    let head = head::judge(&head(), &ring(), URI).expect("a good head");
     assert_eq!(head.signing_string, SIGNING_STRING.as_bytes());
     assert_eq!(head.signing_string.len(), 219);
     assert_eq!(head.record, 0);
@@ -236,20 +239,20 @@ fn a_list_of_calls() {
     let refused = |number| Word::Refused(Refusal::plain(number));
 
     assert_eq!(calls.answer(enough, true).word, refused(1));
-    assert_eq!(calls.feed(short, &ring(), &stream).word, refused(2));
+    assert_eq!(calls.feed(short, &ring(), URI, &stream).word, refused(2));
     let seventeen: Vec<Record> = ring().into_iter().cycle().take(17).collect();
-    assert_eq!(calls.feed(enough, &seventeen, &stream).word, refused(2));
-    let empty = calls.feed(enough, &ring(), b"");
+    assert_eq!(calls.feed(enough, &seventeen, URI, &stream).word, refused(2));
+    let empty = calls.feed(enough, &ring(), URI, b"");
     assert_eq!((empty.word, empty.taken), (Word::More, 0));
 
     let head_length = head().len();
-    let asked = calls.feed(enough, &ring(), &stream);
+    let asked = calls.feed(enough, &ring(), URI, &stream);
     assert_eq!(asked.taken, head_length);
     let Word::Question(question) = asked.word else { panic!("no question") };
     assert_eq!(question.message, SIGNING_STRING.as_bytes());
     assert_eq!(question.record, 0);
     assert_eq!(calls.value(8192, b"date"), b"");
-    assert_eq!(calls.feed(enough, &ring(), b"").word, refused(1));
+    assert_eq!(calls.feed(enough, &ring(), URI, b"").word, refused(1));
     assert_eq!(calls.end(enough).word, refused(1));
     assert_eq!(calls.answer(short, true).word, refused(2));
 
@@ -259,8 +262,8 @@ fn a_list_of_calls() {
     assert_eq!(calls.value(8192, b"Trailer"), b"");
     assert_eq!(calls.value(8192, b"(created)"), b"");
 
-    // The ring is not read again: an empty one changes nothing now.
-    let asked = calls.feed(enough, &[], &stream[head_length..]);
+    // Neither the ring nor the URI is read again: empty ones change nothing now.
+    let asked = calls.feed(enough, &[], b"", &stream[head_length..]);
     assert!(matches!(asked.word, Word::Question(_)));
     assert_eq!(asked.taken, 3 + 5 + 2 + 99);
     assert_eq!(calls.block(65_536), b"");
@@ -268,24 +271,24 @@ fn a_list_of_calls() {
     assert_eq!(calls.block(65_536), b"Hello");
     assert_eq!(calls.block(65_535), b"");
     assert_eq!(calls.answer(enough, false).word, refused(1));
-    assert_eq!(calls.feed(short, &[], b"x").word, refused(2));
+    assert_eq!(calls.feed(short, &[], b"", b"x").word, refused(2));
     assert_eq!(calls.block(65_536), b"Hello");
-    assert_eq!(calls.feed(enough, &[], b"").word, Word::More);
+    assert_eq!(calls.feed(enough, &[], b"", b"").word, Word::More);
     assert_eq!(calls.block(65_536), b"");
 
     // Other bytes than the ones not taken: the reading is over the bytes taken.
-    let wrong = calls.feed(enough, &[], b"12345X\nmore");
+    let wrong = calls.feed(enough, &[], b"", b"12345X\nmore");
     assert_eq!((wrong.word, wrong.taken), (Word::Refused(Refusal::frame(0)), 7));
     assert_eq!(calls.value(8192, b"date"), b"Sat, 21 Mar 2020 00:00:00 GMT");
-    assert_eq!(calls.feed(enough, &[], b"").word, refused(1));
-    assert_eq!(calls.feed(short, &[], b"").word, refused(2));
+    assert_eq!(calls.feed(enough, &[], b"", b"").word, refused(1));
+    assert_eq!(calls.feed(short, &[], b"", b"").word, refused(2));
     assert_eq!(calls.end(enough).word, refused(1));
     assert_eq!(calls.bytes().len(), head_length + 109 + 7);
 }
 
 #[test]
 fn places_of_the_example() {
-    let reading = plain::read(&example(), &ring(), &[true; 4], true);
+    let reading = plain::read(&example(), &ring(), URI, &[true; 4], true);
     let head_length = head().len();
     let places: Vec<usize> = reading.events.iter().map(|placed| placed.place).collect();
     let first = head_length + 3 + 7 + 99;

@@ -33,14 +33,14 @@ fn good_head() -> String {
 
 /// The last event of a stream, all answers yes: by the plain reading, and by the piecewise reader in single bytes.
 fn last(stream: &[u8]) -> Event {
-    let reading = plain::read(stream, &ring(), &[true; 9], true);
+    let reading = plain::read(stream, &ring(), b"u", &[true; 9], true);
     let whole = reading.events.last().expect("an event").event.clone();
     assert_eq!(by_bytes(stream), whole);
     whole
 }
 
 fn by_bytes(stream: &[u8]) -> Event {
-    let mut reader = Reader::new(ring());
+    let mut reader = Reader::new(ring(), b"u".to_vec());
     for byte in stream.chunks(1) {
         match reader.feed(byte).expect("in time").1 {
             Some(Event::Question(_)) => drop(reader.answer(true)),
@@ -204,14 +204,9 @@ fn the_program_s_lines() {
         (String::from_utf8(output.stdout).expect("text"), output.status.code())
     };
     let told = |text: &str| (text.to_string(), Some(0));
-    assert_eq!(run(&["stream", "empty", "empty", "--where"]), told("refused 3 at 11\n"));
-    assert_eq!(run(&["stream", "empty", "empty"]), told("refused 3\n"));
-    assert_eq!(run(&["short", "empty", "empty", "--where"]), told("refused 11\n"));
-    for words in
-        [&["stream", "empty", "--where"][..], &["--where", "stream", "empty", "empty"], &["a", "b", "c", "--x"]]
-    {
-        assert_eq!(run(words), (String::new(), Some(2)), "{words:?}");
-    }
+    assert_eq!(run(&["stream", "empty", "empty", "--uri", "empty", "--where"]), told("refused 3 at 11\n"));
+    assert_eq!(run(&["stream", "empty", "empty", "--uri", "empty"]), told("refused 3\n"));
+    assert_eq!(run(&["short", "empty", "empty", "--where", "--uri", "empty"]), told("refused 11\n"));
     std::fs::remove_dir_all(&folder).expect("the folder goes");
 }
 
@@ -289,7 +284,7 @@ fn heads_against_all_completions() {
         let mut text = [b"HTTP/1.1 200 ", &draw.text(&letters, 9)[..], b"\r\n\r\n"].concat();
         let end = text.windows(4).position(|four| four == head::END).expect("an end");
         text.truncate(end + 4);
-        let Err(Refusal { number: 3, at: Some(place) }) = head::judge(&text, &[]) else { continue };
+        let Err(Refusal { number: 3, at: Some(place) }) = head::judge(&text, &[], b"u") else { continue };
         if place < text.len() {
             wrong += 1;
             check(&text, place, &completions, head::is_good);
@@ -315,7 +310,7 @@ fn status_lines_with_any_byte_anywhere() {
             };
             // A CR in the reason is wrong at the byte after it
             let due = place + usize::from(byte == b'\r' && place >= 13);
-            match head::judge(&text, &[]) {
+            match head::judge(&text, &[], b"u") {
                 Err(Refusal { number: 3, at: Some(at) }) => assert_eq!(at, due, "{byte} at {place}"),
                 other => assert!(stays && byte != b'\r', "{byte} at {place}: {other:?}"),
             }

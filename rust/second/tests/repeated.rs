@@ -35,7 +35,7 @@ fn head_with(lines: &str, listed: &str) -> String {
 
 /// The good head with these lines and listed names.
 fn good(lines: &str, listed: &str) -> Head {
-    let head = head::judge(head_with(lines, listed).as_bytes(), &ring());
+    let head = head::judge(head_with(lines, listed).as_bytes(), &ring(), b"u");
     head.unwrap_or_else(|refusal| panic!("{lines:?}, {listed:?}: {refusal}"))
 }
 
@@ -49,10 +49,10 @@ fn signed_lines(lines: &str, listed: &str) -> String {
 /// The refusal of a head with these lines, which the plain reading and the piecewise reader must agree on.
 fn refusal(lines: &str, listed: &str) -> Refusal {
     let stream = head_with(lines, listed).into_bytes();
-    let refused = head::judge(&stream, &ring()).expect_err(lines);
-    let reading = plain::read(&stream, &ring(), &[], false);
+    let refused = head::judge(&stream, &ring(), b"u").expect_err(lines);
+    let reading = plain::read(&stream, &ring(), b"u", &[], false);
     assert_eq!(reading.events.last().expect("an event").event, Event::Refused(refused));
-    let mut reader = Reader::new(ring());
+    let mut reader = Reader::new(ring(), b"u".to_vec());
     let told: Vec<Event> = stream.chunks(1).filter_map(|byte| reader.feed(byte).expect("in time").1).collect();
     assert_eq!(told, [Event::Refused(refused)]);
     refused
@@ -141,7 +141,7 @@ fn calls(stream: &[u8], names: &[&str], yes: bool) -> Calls {
         for name in names {
             assert_eq!((calls.value(8192, name.as_bytes()), calls.value_count(8192, name.as_bytes())), (&b""[..], 0));
         }
-        calls.feed(Holds::ENOUGH, &ring(), piece);
+        calls.feed(Holds::ENOUGH, &ring(), b"u", piece);
     }
     for name in names {
         assert_eq!((calls.value(8192, name.as_bytes()), calls.value_count(8192, name.as_bytes())), (&b""[..], 0));
@@ -185,9 +185,9 @@ fn point_3_values_and_counts() {
     };
     check(&accepted);
     // For good, after the last event too
-    accepted.feed(Holds::ENOUGH, &ring(), b"0\r\n");
+    accepted.feed(Holds::ENOUGH, &ring(), b"u", b"0\r\n");
     check(&accepted);
-    accepted.feed(Holds::ENOUGH, &ring(), b"\r\n");
+    accepted.feed(Holds::ENOUGH, &ring(), b"u", b"\r\n");
     check(&accepted);
     let refused = calls(&stream, &names, false);
     for name in names {
@@ -234,7 +234,7 @@ fn the_order_of_refusals() {
     assert_eq!(refusal(&at_first, ""), Refusal::head(front + 1));
     let other = |lines: &str, from: &str, to: &str| {
         let text = head_with(lines, "").replacen(from, to, 1);
-        head::judge(text.as_bytes(), &ring()).expect_err(lines)
+        head::judge(text.as_bytes(), &ring(), b"u").expect_err(lines)
     };
     let repeated = "Vary: a\r\nVary: b\r\n";
     let twice = "x-ouinet-:\r\nx-ouinet-:\r\n";
@@ -242,7 +242,7 @@ fn the_order_of_refusals() {
         assert_eq!(other(repeated, from, to), Refusal::plain(number));
         assert_eq!(other(twice, from, to).number, 3);
     }
-    assert_eq!(head::judge(head_with(repeated, "").as_bytes(), &[]), Err(Refusal::plain(12)));
+    assert_eq!(head::judge(head_with(repeated, "").as_bytes(), &[], b"u"), Err(Refusal::plain(12)));
 }
 
 // ---- random heads
@@ -292,7 +292,7 @@ fn random_heads() {
             due += &format!("\n{}: {}", name.to_lowercase(), values_of(&lines, name).join(", "));
         }
         let bytes = head_with(&text, &listed.join(" "));
-        let head = head::judge(bytes.as_bytes(), &ring()).expect("a good head");
+        let head = head::judge(bytes.as_bytes(), &ring(), b"u").expect("a good head");
         assert_eq!(head.signing_string, due.as_bytes(), "{bytes}");
         assert!(head.signing_string.len() <= bytes.len());
         for name in listed {

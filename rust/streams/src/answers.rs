@@ -41,10 +41,10 @@ pub fn lines_with(all_yes: &[String], answers: &[bool]) -> Vec<String> {
 
 /// The answers that real verification gives: each question's signature over its message, held
 /// against the key of its record. The questions come from the second reader.
-pub fn verified(stream: &[u8], ring: &[RingRecord]) -> Vec<bool> {
+pub fn verified(stream: &[u8], ring: &[RingRecord], uri: &[u8]) -> Vec<bool> {
     let records: Vec<Record> =
         ring.iter().map(|record| Record { key: record.key, first: record.first, last: record.last }).collect();
-    let mut reader = Reader::new(records.clone());
+    let mut reader = Reader::new(records.clone(), uri.to_vec());
     let mut answers = Vec::new();
     let mut rest = stream;
     while let Ok((taken, Some(event))) = reader.feed(rest) {

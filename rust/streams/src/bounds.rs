@@ -37,7 +37,7 @@ impl Table<'_> {
 
     /// Bytes for which the all-yes lines are these.
     fn bytes(&mut self, label: impl Into<String>, stream: Vec<u8>, built: &Built, lines: Vec<String>) {
-        let case = Case::known(label, stream, &built.ring, &lines, &built.body, Answering::AllYes, self.rng);
+        let case = Case::known(label, built.known(stream, lines), Answering::AllYes, self.rng);
         self.cases.push(case);
     }
 

@@ -3,7 +3,7 @@
 use crate::answers;
 use crate::cuts;
 use crate::head;
-use crate::plan::{ring_text, Built, RingRecord};
+use crate::plan::{ring_text, Built, Known};
 use crate::rng::Rng;
 use second::event::Refusal;
 use std::fs;
@@ -16,6 +16,7 @@ pub const STREAM: &str = "stream";
 pub const RING: &str = "ring";
 pub const ANSWERS: &str = "answers";
 pub const CUTS: &str = "cuts";
+pub const ASKED: &str = "uri";
 
 /// What must come out.
 pub enum Expected {
@@ -32,15 +33,18 @@ pub enum Expected {
         file: &'static str,
         line: Option<usize>,
     },
+    /// The words are not as they must be: no event, and the usage as one line on standard error. The status is as above.
+    Usage,
     Unknown,
 }
 
 impl Expected {
-    /// A word for the index: the last line, `malformed` or `-`.
+    /// A word for the index: the last line, `malformed`, `usage` or `-`.
     pub fn summary(&self) -> String {
         match self {
             Expected::Exactly { lines, .. } => lines.last().cloned().unwrap_or_else(|| "nothing".to_string()),
             Expected::Malformed { file, .. } => format!("malformed {file}"),
+            Expected::Usage => "usage".to_string(),
             Expected::BeginningOf(_) | Expected::Unknown => "-".to_string(),
         }
     }
@@ -68,10 +72,34 @@ impl Lack {
     }
 }
 
+/// How the file of the URI is named to a reader.
+#[derive(Clone, Copy, PartialEq, Eq, Debug)]
+pub enum Naming {
+    Once,
+    NotAtAll,
+    Twice,
+    WithoutFile,
+}
+
+impl Naming {
+    /// The words for it. They must be the last ones if the file is left out.
+    pub fn words(self) -> &'static [&'static str] {
+        match self {
+            Naming::Once => &["--uri", ASKED],
+            Naming::NotAtAll => &[],
+            Naming::Twice => &["--uri", ASKED, "--uri", ASKED],
+            Naming::WithoutFile => &["--uri"],
+        }
+    }
+}
+
 pub struct Case {
     pub label: String,
     pub stream: Vec<u8>,
     pub ring: Vec<u8>,
+    /// The URI asked for: that of the honest head, unless the case is about another.
+    pub uri: Vec<u8>,
+    pub naming: Naming,
     pub answers: Vec<u8>,
     pub cuts: Option<Vec<u8>>,
     /// A file whose bytes cannot be had.
@@ -101,27 +129,20 @@ fn released(lines: &[String]) -> usize {
 impl Case {
     /// A case whose all-yes lines are known. Whatever is asked is then signed as it should be, so
     /// verified answers must all be yes; this holds the second reader's messages against libsodium.
-    pub fn known(
-        label: impl Into<String>,
-        stream: Vec<u8>,
-        ring: &[RingRecord],
-        all_yes: &[String],
-        body: &[u8],
-        answering: Answering,
-        rng: &mut Rng,
-    ) -> Self {
+    pub fn known(label: impl Into<String>, known: Known, answering: Answering, rng: &mut Rng) -> Self {
+        let Known { stream, ring, uri, lines: all_yes, body } = known;
         let questions = all_yes.iter().filter(|line| line.starts_with("question")).count();
         let list = match answering {
             Answering::AllYes => vec![true; questions + rng.below(3)],
             Answering::NoAfter(count) => [vec![true; count], vec![false]].concat(),
             Answering::OutAfter(count) => vec![true; count],
-            Answering::Verified => answers::verified(&stream, ring),
+            Answering::Verified => answers::verified(&stream, &ring, &uri),
         };
         if matches!(answering, Answering::Verified) {
             let all_good = list.len() == questions && list.iter().all(|&yes| yes);
             assert!(all_good, "an honest signature is not verified: the second reader asks about a wrong message");
         }
-        let lines = answers::lines_with(all_yes, &list);
+        let lines = answers::lines_with(&all_yes, &list);
         let body = body[..released(&lines)].to_vec();
         let text = answers::text(&list, rng);
         Case {
@@ -129,7 +150,9 @@ impl Case {
             cuts: cuts::any(&stream, rng),
             through_pipe: rng.one_in(16),
             stream,
-            ring: ring_text(ring),
+            ring: ring_text(&ring),
+            uri,
+            naming: Naming::Once,
             answers: text,
             lack: None,
             expected: Expected::Exactly { lines, body },
@@ -138,26 +161,31 @@ impl Case {
 
     /// A stream whose head is refused at once.
     pub fn refused_head(refusal: Refusal, label: impl Into<String>, built: &Built, rng: &mut Rng) -> Self {
-        let lines = [refusal.to_string()];
-        Case::known(label, built.bytes(), &built.ring, &lines, &built.body, Answering::AllYes, rng)
+        let known = built.known(built.bytes(), vec![refusal.to_string()]);
+        Case::known(label, known, Answering::AllYes, rng)
     }
 
     /// A whole stream as it was built.
     pub fn whole(label: impl Into<String>, built: &Built, answering: Answering, rng: &mut Rng) -> Self {
-        Case::known(label, built.bytes(), &built.ring, &built.lines(), &built.body, answering, rng)
+        Case::known(label, built.known(built.bytes(), built.lines()), answering, rng)
     }
 
     /// A stream whose head is signed over another text than it should be: the answer is no.
     pub fn wrongly_signed(label: impl Into<String>, built: &Built, rng: &mut Rng) -> Self {
-        let stream = built.bytes();
-        assert_eq!(answers::verified(&stream, &built.ring), [false], "the wrong text is the right one");
-        Case::known(label, stream, &built.ring, &built.lines(), &built.body, Answering::NoAfter(0), rng)
+        let known = built.known(built.bytes(), built.lines());
+        let answers = answers::verified(&known.stream, &known.ring, &known.uri);
+        assert_eq!(answers, [false], "the wrong text is the right one");
+        Case::known(label, known, Answering::NoAfter(0), rng)
     }
 
     /// A case of which only this is known: with verified answers, what is released is a beginning
     /// of the body that was signed.
     pub fn damaged(label: impl Into<String>, stream: Vec<u8>, built: &Built, verified: bool, rng: &mut Rng) -> Self {
-        let list = if verified { answers::verified(&stream, &built.ring) } else { vec![true; built.parts.len() + 20] };
+        let list = if verified {
+            answers::verified(&stream, &built.ring, &built.uri)
+        } else {
+            vec![true; built.parts.len() + 20]
+        };
         let expected = if verified { Expected::BeginningOf(built.body.clone()) } else { Expected::Unknown };
         Case {
             label: label.into(),
@@ -165,10 +193,26 @@ impl Case {
             through_pipe: rng.one_in(16),
             stream,
             ring: ring_text(&built.ring),
+            uri: built.uri.clone(),
+            naming: Naming::Once,
             answers: answers::text(&list, rng),
             lack: None,
             expected,
         }
+    }
+
+    /// The same stream, asked for by another URI than the head's: a head in which nothing is wrong, or only the key, is then refused
+    /// with 16.
+    pub fn asked_by(mut self, uri: Vec<u8>) -> Self {
+        assert_ne!(uri, self.uri, "{}: no other URI", self.label);
+        if let Expected::Exactly { lines, body } = &mut self.expected {
+            if lines.first().is_some_and(|first| first.starts_with("question") || first == "refused 12") {
+                *lines = vec![Refusal::plain(16).to_string()];
+                body.clear();
+            }
+        }
+        self.uri = uri;
+        self
     }
 
     /// Whether some name comes in several lines of the stream's head.
@@ -193,7 +237,8 @@ impl Case {
 
     /// The files with their names.
     pub fn files(&self) -> Vec<(&'static str, &[u8])> {
-        let mut files = vec![(STREAM, &self.stream[..]), (RING, &self.ring), (ANSWERS, &self.answers)];
+        let mut files =
+            vec![(STREAM, &self.stream[..]), (RING, &self.ring), (ANSWERS, &self.answers), (ASKED, &self.uri)];
         if let Some(cuts) = &self.cuts {
             files.push((CUTS, cuts));
         }
@@ -206,6 +251,7 @@ impl Case {
             Expected::Exactly { lines, .. } => lines.iter().map(|line| format!("{line}\n")).collect(),
             Expected::Malformed { file, line: Some(line) } => format!("(no event; {file}, line {line})\n"),
             Expected::Malformed { file, line: None } => format!("(no event; {file})\n"),
+            Expected::Usage => "(no event; the usage)\n".to_string(),
             Expected::BeginningOf(_) => "(released bytes are a beginning of the signed body)\n".to_string(),
             Expected::Unknown => "(not known)\n".to_string(),
         }

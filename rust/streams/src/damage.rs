@@ -63,8 +63,8 @@ pub fn case(hit: Hit, streams: &[Built], rng: &mut Rng) -> Case {
         Damage::Insert => bytes.insert(hit.place, odd_byte(rng)),
         Damage::Truncate => {
             bytes.truncate(hit.place);
-            let lines = built.lines_of_beginning(hit.place);
-            return Case::known(label, bytes, &built.ring, &lines, &built.body, Answering::AllYes, rng);
+            let known = built.known(bytes, built.lines_of_beginning(hit.place));
+            return Case::known(label, known, Answering::AllYes, rng);
         }
     }
     let verified = rng.one_in(3);

@@ -1,26 +1,35 @@
-//! Malformed, missing and unreadable files: no event, one line that names the file and the line.
+//! Malformed, missing and unreadable files: no event, one line that names the file and the line. Words that are not as they
+//! must be: no event, and the usage.
 
-use crate::case::{Case, Expected, Lack, ANSWERS, CUTS, RING, STREAM};
+use crate::case::{Case, Expected, Lack, Naming, ANSWERS, ASKED, CUTS, RING, STREAM};
 use crate::example;
 use crate::plan::ring_text;
 
 /// All cases of this kind, made from the example, and a few odd files that are good.
 pub fn all() -> Vec<Case> {
-    let mut cases = Vec::new();
-    for file in [STREAM, RING, ANSWERS, CUTS] {
-        for (how, lack) in
-            [("missing", Lack::Missing), ("a folder", Lack::Folder), ("that cannot be read", Lack::Unreadable)]
-        {
-            let mut case = example_case(format!("{file} {how}"), Expected::Malformed { file, line: None });
-            case.lack = Some((file, lack));
-            cases.push(case);
-        }
-    }
+    let mut cases: Vec<Case> = [STREAM, RING, ANSWERS, CUTS].into_iter().flat_map(lacks).collect();
     cases.extend(rings());
     cases.extend(answers());
     cases.extend(cuts());
     cases.extend(good());
     cases
+}
+
+/// The same about the file of the URI. They are apart so that the numbers of later cases do not depend on them.
+pub fn about_uri() -> Vec<Case> {
+    lacks(ASKED).into_iter().chain(namings()).chain(uris()).collect()
+}
+
+/// The bytes of a file cannot be had.
+fn lacks(file: &'static str) -> Vec<Case> {
+    [("missing", Lack::Missing), ("a folder", Lack::Folder), ("that cannot be read", Lack::Unreadable)]
+        .into_iter()
+        .map(|(how, lack)| {
+            let mut case = example_case(format!("{file} {how}"), Expected::Malformed { file, line: None });
+            case.lack = Some((file, lack));
+            case
+        })
+        .collect()
 }
 
 fn example_case(label: String, expected: Expected) -> Case {
@@ -29,12 +38,53 @@ fn example_case(label: String, expected: Expected) -> Case {
         label,
         stream: built.bytes(),
         ring: ring_text(&built.ring),
+        uri: built.uri,
+        naming: Naming::Once,
         answers: b"yyyy".to_vec(),
         cuts: Some(b"65536\n".to_vec()),
         lack: None,
         through_pipe: false,
         expected,
     }
+}
+
+/// The file of the URI must be named, and once.
+fn namings() -> Vec<Case> {
+    let mut cases = Vec::new();
+    for (label, naming) in [
+        ("no URI given", Naming::NotAtAll),
+        ("a URI given twice", Naming::Twice),
+        ("a URI without its file", Naming::WithoutFile),
+    ] {
+        for cuts in [None, Some(b"5\n".to_vec())] {
+            let mut case = example_case(label.to_string(), Expected::Usage);
+            (case.naming, case.cuts) = (naming, cuts);
+            cases.push(case);
+        }
+    }
+    cases
+}
+
+/// Any bytes are a good file for the URI; most are another one's.
+fn uris() -> Vec<Case> {
+    let own = example::plan().uri();
+    let texts: [(&str, Vec<u8>); 6] = [
+        ("that is empty", Vec::new()),
+        ("with a line feed at its end", [&own[..], b"\n"].concat()),
+        ("with a CR LF at its end", [&own[..], b"\r\n"].concat()),
+        ("with a space at its end", [&own[..], b" "].concat()),
+        ("of zero bytes", vec![0; 70_000]),
+        ("of a million bytes", [&own[..], &b"x".repeat(1_000_000)].concat()),
+    ];
+    let refused = || Expected::Exactly { lines: vec!["refused 16".to_string()], body: Vec::new() };
+    texts
+        .into_iter()
+        .map(|(label, text)| {
+            let mut case = example_case(format!("{ASKED} {label}"), refused());
+            case.uri = text;
+            case
+        })
+        .collect()
 }
 
 fn rings() -> Vec<Case> {

@@ -8,12 +8,13 @@
 //! * `head`: a head as an editable list of lines;
 //! * `plan`: what an honest stream is made from, and how it is built;
 //! * `random`: plans drawn at random;
-//! * `answers`, `cuts`: the other two files of a case;
+//! * `answers`, `cuts`: two further files of a case;
 //! * `case`: a case and what is expected of it;
 //! * `table`: cases made one after another;
 //! * `rules`: a table of the rules of paper 01, each broken once;
 //! * `bounds`: both sides of each length limit;
 //! * `repeated`: heads in which a name comes in several lines;
+//! * `asked`: streams asked for by their own URI, or by another one;
 //! * `damage`: bytes changed, deleted, inserted, cut off;
 //! * `wrong_text`: damage to the text of a section;
 //! * `inputs`: malformed files;
@@ -24,6 +25,7 @@
 //! * `long`: streams of any length from the writer.
 
 pub mod answers;
+pub mod asked;
 pub mod base64;
 pub mod bounds;
 pub mod case;

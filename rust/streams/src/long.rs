@@ -20,6 +20,11 @@ pub fn ring() -> Vec<u8> {
     crate::plan::ring_text(&plan(1).ring)
 }
 
+/// The URI to ask for.
+pub fn uri() -> Vec<u8> {
+    plan(1).uri()
+}
+
 /// How many questions a body of so many bytes brings, the head's included.
 pub fn questions(length: u64, block_size: usize) -> u64 {
     1 + length.div_ceil(block_size as u64)

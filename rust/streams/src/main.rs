@@ -4,7 +4,7 @@ use std::fs::{self, File};
 use std::io::{self, BufWriter, Write};
 use std::path::Path;
 use std::process::ExitCode;
-use streams::case::{Answering, Case};
+use streams::case::{Answering, Case, ANSWERS, ASKED, RING};
 use streams::options::{parse_number, Options};
 use streams::rng::Rng;
 use streams::sequence::{self, Group, Sequence};
@@ -13,13 +13,13 @@ use streams::{example, long};
 const USAGE: &str = "\
 usage:
   streams example DIR
-      the example of document 000: stream, ring, answers, expected
+      the example of document 000: stream, ring, answers, uri, expected
   streams corpus --seed S --count N [--groups LIST] DIR
       N cases of the seed, a folder each, and an index with what is expected
   streams long BYTES [--block-size N]
       a stream with a body of so many bytes, to standard output
   streams long-files BYTES [--block-size N] DIR
-      the ring and the answers for such a stream";
+      the ring, the answers and the URI for such a stream";
 
 fn main() -> ExitCode {
     let words: Vec<String> = std::env::args().skip(1).collect();
@@ -115,9 +115,11 @@ fn write_long(length: u64, block_size: usize) -> Result<(), String> {
 
 fn write_long_files(length: u64, block_size: usize, folder: &Path) -> Result<(), String> {
     fs::create_dir_all(folder).map_err(|error| failed(folder, error))?;
-    let ring = folder.join("ring");
-    fs::write(&ring, long::ring()).map_err(|error| failed(&ring, error))?;
-    let answers = folder.join("answers");
+    for (name, bytes) in [(RING, long::ring()), (ASKED, long::uri())] {
+        let path = folder.join(name);
+        fs::write(&path, bytes).map_err(|error| failed(&path, error))?;
+    }
+    let answers = folder.join(ANSWERS);
     let file = File::create(&answers).map_err(|error| failed(&answers, error))?;
     let mut out = BufWriter::new(file);
     let written = long::write_answers(length, block_size, &mut out).and_then(|()| out.flush());

@@ -98,9 +98,25 @@ pub struct Built {
     pub parts: Vec<Part>,
     pub body: Vec<u8>,
     pub ring: Vec<RingRecord>,
+    /// The URI to ask for.
+    pub uri: Vec<u8>,
+}
+
+/// A stream, what a reader is given beside it, and the lines that it then writes, all yes. The body is the one that was signed.
+pub struct Known {
+    pub stream: Vec<u8>,
+    pub ring: Vec<RingRecord>,
+    pub uri: Vec<u8>,
+    pub lines: Vec<String>,
+    pub body: Vec<u8>,
 }
 
 impl Built {
+    /// These bytes in place of the stream's own, and the lines that a reader writes for them.
+    pub fn known(&self, stream: Vec<u8>, lines: Vec<String>) -> Known {
+        Known { stream, ring: self.ring.clone(), uri: self.uri.clone(), lines, body: self.body.clone() }
+    }
+
     pub fn bytes(&self) -> Vec<u8> {
         self.parts.iter().flat_map(|part| part.bytes.iter().copied()).collect()
     }
@@ -144,6 +160,12 @@ impl Plan {
     pub fn field(&mut self, name: &str) -> &mut Field {
         let found = self.fields.iter_mut().find(|field| field.name.eq_ignore_ascii_case(name.as_bytes()));
         found.unwrap_or_else(|| panic!("the plan has no field {name}"))
+    }
+
+    /// The value of the URI's field; nothing if there is no such field.
+    pub fn uri(&self) -> Vec<u8> {
+        let found = self.fields.iter().find(|field| field.name.eq_ignore_ascii_case(b"X-Ouinet-URI"));
+        found.map_or(Vec::new(), |field| field.value.clone())
     }
 
     pub fn add(&mut self, name: &str, value: &[u8]) {
@@ -260,7 +282,7 @@ impl Plan {
             bytes: self.trailer.clone(),
             lines: vec![format!("closed {}", body.len())],
         });
-        Built { head, parts, body, ring: self.ring.clone() }
+        Built { head, parts, body, ring: self.ring.clone(), uri: self.uri() }
     }
 
     /// A chunk line, with the signature of the block before if there is one.

@@ -1,6 +1,7 @@
-//! The cases of a seed, in order: first the fixed tables, then repeated fields, then damaged text, then
+//! The cases of a seed, in order: first the fixed tables, then files of URIs, repeated fields and asked URIs, then damaged text, then
 //! damage at every place (in an order that the seed shuffles) and random streams by turns.
 
+use crate::asked;
 use crate::bounds;
 use crate::case::{Answering, Case};
 use crate::damage::{self, Hit};
@@ -10,7 +11,7 @@ use crate::plan::Built;
 use crate::random;
 use crate::repeated;
 use crate::rng::Rng;
-use crate::rules::{self, Rule, Spot};
+use crate::rules::{self, Rule};
 use crate::wrong_text;
 use std::collections::VecDeque;
 
@@ -22,17 +23,19 @@ pub enum Group {
     Bounds,
     Inputs,
     Repeated,
+    Asked,
     Text,
     Damage,
     Mixed,
 }
 
-pub const GROUPS: [(&str, Group); 8] = [
+pub const GROUPS: [(&str, Group); 9] = [
     ("example", Group::Example),
     ("rules", Group::Rules),
     ("bounds", Group::Bounds),
     ("inputs", Group::Inputs),
     ("repeated", Group::Repeated),
+    ("asked", Group::Asked),
     ("text", Group::Text),
     ("damage", Group::Damage),
     ("mixed", Group::Mixed),
@@ -60,8 +63,8 @@ pub struct Sequence {
     number: u64,
     mixed: bool,
     fixed: VecDeque<Case>,
-    /// Heads with repeated fields. They have numbers of their own, so that no other case depends on them.
-    repeated: VecDeque<Case>,
+    /// Files of a URI, heads with repeated fields, and asked URIs: they do not count, so that no other case depends on them.
+    apart: VecDeque<Case>,
     /// How many cases of damaged text are left.
     texts: usize,
     rules: Vec<Rule>,
@@ -90,19 +93,18 @@ impl Sequence {
         let small = damage::streams();
         let mut hits = if has(Group::Damage) { damage::every_place(&small) } else { Vec::new() };
         rng.shuffle(&mut hits);
-        let repeated = if has(Group::Repeated) { repeated::all(seed) } else { Vec::new() };
-        let texts = if has(Group::Text) { wrong_text::COUNT } else { 0 };
-        Sequence {
-            seed,
-            number: 0,
-            mixed: has(Group::Mixed),
-            fixed,
-            repeated: repeated.into(),
-            texts,
-            rules,
-            small,
-            hits,
+        let mut apart = VecDeque::new();
+        if has(Group::Inputs) {
+            apart.extend(inputs::about_uri());
         }
+        if has(Group::Repeated) {
+            apart.extend(repeated::all(seed));
+        }
+        if has(Group::Asked) {
+            apart.extend(asked::all(seed));
+        }
+        let texts = if has(Group::Text) { wrong_text::COUNT } else { 0 };
+        Sequence { seed, number: 0, mixed: has(Group::Mixed), fixed, apart, texts, rules, small, hits }
     }
 
     /// How many cases the fixed tables have left.
@@ -120,8 +122,8 @@ impl Iterator for Sequence {
     type Item = Case;
 
     fn next(&mut self) -> Option<Case> {
-        if self.fixed.is_empty() && !self.repeated.is_empty() {
-            return self.repeated.pop_front();
+        if self.fixed.is_empty() && !self.apart.is_empty() {
+            return self.apart.pop_front();
         }
         self.number += 1;
         if let Some(case) = self.fixed.pop_front() {
@@ -138,7 +140,7 @@ impl Iterator for Sequence {
                 return Some(damage::case(hit, &self.small, &mut rng));
             }
         }
-        self.mixed.then(|| mixed_case(&self.rules, &mut rng))
+        self.mixed.then(|| maybe_another_uri(mixed_case(&self.rules, &mut rng), &mut rng))
     }
 }
 
@@ -168,16 +170,19 @@ fn rule_cases(rules: &[Rule], rng: &mut Rng) -> Vec<Case> {
     let mut cases = Vec::new();
     for rule in rules {
         for &spot in &rule.spots {
-            cases.push(rule_case(rule, spot, &plan, Answering::AllYes, rng));
+            cases.push(rule.case(spot, &plan, Answering::AllYes, rng));
         }
     }
     cases
 }
 
-fn rule_case(rule: &Rule, spot: Spot, plan: &crate::plan::Plan, answering: Answering, rng: &mut Rng) -> Case {
-    let broken = rule.break_at(spot, plan, rng);
-    let label = format!("{} at {spot:?}", rule.label);
-    Case::known(label, broken.stream, &broken.ring, &broken.lines, &broken.body, answering, rng)
+/// Now and then the case is asked for by another URI. That is drawn last, so that its stream does not depend on it.
+fn maybe_another_uri(case: Case, rng: &mut Rng) -> Case {
+    if !rng.one_in(12) {
+        return case;
+    }
+    let uri = asked::other_uri(&case.uri, rng);
+    case.asked_by(uri)
 }
 
 /// A random case of any kind.
@@ -188,16 +193,15 @@ fn mixed_case(rules: &[Rule], rng: &mut Rng) -> Case {
             let rule = rng.pick(rules);
             let spot = *rng.pick(&rule.spots);
             let plan = random::full_plan(rng);
-            rule_case(rule, spot, &plan, *rng.pick(&[Answering::AllYes, Answering::Verified]), rng)
+            rule.case(spot, &plan, *rng.pick(&[Answering::AllYes, Answering::Verified]), rng)
         }
         7 => {
             let built = random::plan(rng).build();
             let mut bytes = built.bytes();
             let length = rng.below(bytes.len() + 1);
             bytes.truncate(length);
-            let lines = built.lines_of_beginning(length);
-            let label = format!("a random stream cut off at {length}");
-            Case::known(label, bytes, &built.ring, &lines, &built.body, Answering::Verified, rng)
+            let known = built.known(bytes, built.lines_of_beginning(length));
+            Case::known(format!("a random stream cut off at {length}"), known, Answering::Verified, rng)
         }
         _ => {
             let built = random::full_plan(rng).build();
@@ -222,5 +226,5 @@ fn honest_case(rng: &mut Rng) -> Case {
         bytes.extend(rng.bytes(count));
     }
     let label = format!("a random honest stream of {} bytes", bytes.len());
-    Case::known(label, bytes, &built.ring, &built.lines(), &built.body, answering, rng)
+    Case::known(label, built.known(bytes, built.lines()), answering, rng)
 }

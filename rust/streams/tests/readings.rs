@@ -19,17 +19,19 @@ use streams::sodium;
 /// The inputs of a case as values. Nothing for a case with malformed files.
 struct Inputs {
     ring: Vec<Record>,
+    uri: Vec<u8>,
     answers: Vec<bool>,
     cuts: Vec<usize>,
 }
 
 fn inputs(case: &Case) -> Option<Inputs> {
-    if matches!(case.expected, Expected::Malformed { .. }) {
+    if matches!(case.expected, Expected::Malformed { .. } | Expected::Usage) {
         return None;
     }
     let cuts = case.cuts.as_deref().unwrap_or(b"65536\n");
     Some(Inputs {
         ring: files::parse_ring(&case.ring).expect("a good ring"),
+        uri: case.uri.clone(),
         answers: case.answers.iter().filter(|byte| !byte.is_ascii_whitespace()).map(|&byte| byte == b'y').collect(),
         cuts: files::parse_cuts(cuts).expect("good cuts"),
     })
@@ -52,7 +54,7 @@ fn pieces<'a>(stream: &'a [u8], cuts: &[usize]) -> Vec<&'a [u8]> {
 
 /// The events of the piecewise reader and the bytes it released.
 fn by_reader(stream: &[u8], inputs: &Inputs) -> (Vec<Event>, Vec<u8>) {
-    let mut reader = Reader::new(inputs.ring.clone());
+    let mut reader = Reader::new(inputs.ring.clone(), inputs.uri.clone());
     let mut answers = inputs.answers.iter();
     let (mut events, mut body) = (Vec::new(), Vec::new());
     for piece in pieces(stream, &inputs.cuts) {
@@ -85,7 +87,7 @@ fn by_reader(stream: &[u8], inputs: &Inputs) -> (Vec<Event>, Vec<u8>) {
 /// The words of a list of calls that goes on from the first byte not taken. At each call the place
 /// is held against the plain reading, and the block and a value against their times.
 fn by_calls(stream: &[u8], inputs: &Inputs) -> (Vec<Word>, Vec<u8>) {
-    let whole = plain::read(stream, &inputs.ring, &inputs.answers, true);
+    let whole = plain::read(stream, &inputs.ring, &inputs.uri, &inputs.answers, true);
     let mut calls = Calls::new();
     let mut answers = inputs.answers.iter();
     let (mut words, mut body) = (Vec::new(), Vec::new());
@@ -101,7 +103,7 @@ fn by_calls(stream: &[u8], inputs: &Inputs) -> (Vec<Word>, Vec<u8>) {
     for piece in pieces(stream, &inputs.cuts) {
         let mut rest = piece;
         loop {
-            let outcome = calls.feed(Holds::ENOUGH, &inputs.ring, rest);
+            let outcome = calls.feed(Holds::ENOUGH, &inputs.ring, &inputs.uri, rest);
             rest = &rest[outcome.taken..];
             assert_eq!(calls.block(65_536), b"");
             if outcome.word == Word::More {
@@ -129,7 +131,7 @@ fn by_calls(stream: &[u8], inputs: &Inputs) -> (Vec<Word>, Vec<u8>) {
 
 fn check(case: &Case, with_calls: bool) {
     let Some(inputs) = inputs(case) else { return };
-    let whole = plain::read(&case.stream, &inputs.ring, &inputs.answers, true);
+    let whole = plain::read(&case.stream, &inputs.ring, &inputs.uri, &inputs.answers, true);
     let events: Vec<Event> = whole.events.iter().map(|placed| placed.event.clone()).collect();
     let (by_reader, body) = by_reader(&case.stream, &inputs);
     assert_eq!(by_reader, events, "{}", case.label);
@@ -149,7 +151,7 @@ fn check(case: &Case, with_calls: bool) {
 #[test]
 fn reader_and_plain_reading_agree() {
     let groups: Vec<Group> = all_groups().into_iter().filter(|&group| group != Group::Text).collect();
-    for case in Sequence::new(11, &groups).take(3000).chain(Sequence::new(11, &[Group::Text]).take(1000)) {
+    for case in Sequence::new(11, &groups).take(3900).chain(Sequence::new(11, &[Group::Text]).take(1000)) {
         check(&case, false);
     }
 }
@@ -158,7 +160,9 @@ fn reader_and_plain_reading_agree() {
 fn calls_agree_on_short_streams() {
     let short = |groups: &[Group]| Sequence::new(12, groups).filter(|case| case.stream.len() < 3000);
     let cases = short(&[Group::Example, Group::Damage, Group::Mixed]).take(150);
-    for mut case in cases.chain(short(&[Group::Text]).take(60)).chain(short(&[Group::Repeated]).step_by(5)) {
+    for mut case in
+        cases.chain(short(&[Group::Text]).take(60)).chain(short(&[Group::Repeated, Group::Asked]).step_by(5))
+    {
         if case.cuts.as_deref() == Some(b"1\n") {
             case.cuts = Some(b"7\n0\n1\n".to_vec());
         }
@@ -176,10 +180,10 @@ fn a_feed_takes_the_shortest_beginning_that_gains_an_event() {
     let mut answers = Vec::new();
     let mut done = 0;
     loop {
-        let events = |count: usize| plain::read(&stream[..count], &ring, &answers, false).events.len();
+        let events = |count: usize| plain::read(&stream[..count], &ring, &built.uri, &answers, false).events.len();
         let before = events(done);
         let shortest = (done..=stream.len()).find(|&count| events(count) > before);
-        let outcome = calls.feed(Holds::ENOUGH, &ring, &stream[done..]);
+        let outcome = calls.feed(Holds::ENOUGH, &ring, &built.uri, &stream[done..]);
         assert_eq!(Some(done + outcome.taken), shortest);
         done += outcome.taken;
         match outcome.word {
@@ -208,7 +212,7 @@ fn the_question_names_the_first_record_that_fits() {
     let other = RingRecord { key: [3; 32], first: 0, last: u64::MAX };
     plan.ring = vec![own(0, ts - 1), own(ts + 1, u64::MAX), other, own(ts, ts), own(0, u64::MAX)];
     let built = plan.build();
-    let reading = plain::read(&built.bytes(), &records(&built.ring), &[true; 4], true);
+    let reading = plain::read(&built.bytes(), &records(&built.ring), &built.uri, &[true; 4], true);
     for placed in &reading.events {
         if let Event::Question(question) = &placed.event {
             assert_eq!(question.record, 3);
@@ -239,7 +243,7 @@ fn what_lies_in_the_holds() {
     let enough = Holds::ENOUGH;
     let part = |number: usize| &built.parts[number].bytes[..];
     let mut calls = Calls::new();
-    calls.feed(enough, &ring, part(0));
+    calls.feed(enough, &ring, &built.uri, part(0));
     let now = calls.contents(&marked());
     assert!(now.head.starts_with(part(0)));
     assert!(now.head[part(0).len()..].iter().all(|&byte| byte == 0xaa));
@@ -249,13 +253,13 @@ fn what_lies_in_the_holds() {
 
     calls.answer(enough, true);
     for number in 1..=3 {
-        calls.feed(enough, &ring, part(number));
+        calls.feed(enough, &ring, &built.uri, part(number));
     }
     assert!(calls.contents(&marked()).block.starts_with(b"Hello\xbb\xbb"));
-    calls.feed(enough, &ring, part(4));
+    calls.feed(enough, &ring, &built.uri, part(4));
     calls.answer(enough, true);
     assert_eq!(calls.block(65_536), b"Hello");
-    calls.feed(enough, &ring, b" w");
+    calls.feed(enough, &ring, &built.uri, b" w");
     assert!(calls.contents(&marked()).block.starts_with(b" wllo\xbb"));
 
     // The two bytes gathered of the block are set to zero, the older ones behind them stay.
@@ -271,7 +275,7 @@ fn a_refusal_after_a_release_leaves_the_block_hold_alone() {
     let ring = records(&built.ring);
     let mut calls = Calls::new();
     for part in &built.parts[..5] {
-        calls.feed(Holds::ENOUGH, &ring, &part.bytes);
+        calls.feed(Holds::ENOUGH, &ring, &built.uri, &part.bytes);
         calls.answer(Holds::ENOUGH, true);
     }
     assert_eq!(calls.end(Holds::ENOUGH).word, Word::Refused(Refusal::plain(11)));
@@ -296,7 +300,7 @@ fn values_and_counts_of_repeated_fields() {
         let plan = repeated::plan(&mut rng);
         let built = plan.build();
         let mut calls = Calls::new();
-        calls.feed(Holds::ENOUGH, &records(&built.ring), &built.bytes());
+        calls.feed(Holds::ENOUGH, &records(&built.ring), &built.uri, &built.bytes());
         assert!(matches!(calls.answer(Holds::ENOUGH, true).word, Word::HeadAccepted { .. }));
         for field in &built.head.fields {
             let same = |name: &[u8]| name.eq_ignore_ascii_case(&field.name);
@@ -336,13 +340,29 @@ fn repeated_fields_in_all_kinds_of_heads() {
     }
 }
 
+/// What the group of asked URIs has: those that are the head's, those that are not, and heads that are refused before that matters.
+#[test]
+fn asked_uris_in_all_kinds_of_heads() {
+    let mut counts: BTreeMap<String, usize> = BTreeMap::new();
+    for case in Sequence::new(5, &[Group::Asked]) {
+        let Expected::Exactly { lines, .. } = case.expected else { continue };
+        let number = lines[0].strip_prefix("refused ").and_then(|rest| rest.split(' ').next());
+        *counts.entry(number.unwrap_or("asked about").to_string()).or_default() += 1;
+    }
+    println!("heads that were asked for: {counts:?}");
+    for (kind, least) in [("asked about", 50), ("16", 250), ("3", 100), ("4", 200), ("5", 15), ("11", 1)] {
+        assert!(counts[kind] >= least, "{kind}: {}", counts[kind]);
+    }
+    assert!(!counts.contains_key("12"), "a key goes before a URI");
+}
+
 /// Each kind of section is refused inside its text, and those that can be without end are refused for their length too.
 #[test]
 fn damaged_text_is_mostly_refused_at_a_place() {
     let mut counts: BTreeMap<String, [usize; 2]> = BTreeMap::new();
     for case in Sequence::new(5, &[Group::Text]) {
         let inputs = inputs(&case).expect("good files");
-        let reading = plain::read(&case.stream, &inputs.ring, &inputs.answers, true);
+        let reading = plain::read(&case.stream, &inputs.ring, &inputs.uri, &inputs.answers, true);
         let last = reading.events.last().map(|placed| placed.event.clone());
         if let (Some(Event::Refused(Refusal { at: Some(at), .. })), Some((kind, section))) =
             (last, reading.sections.last())

@@ -49,7 +49,7 @@ returns c =
     let q = o .before .before .before .before in
     let b = q .before in
     let h = b .before in
-    fed-front _ _ _ _ _ _ _ (h .least .ensures) (b .least2 .ensures) (q .least3 .ensures) _ _ _ _ _ _ (o .feed .ensures)
+    fed-front _ _ _ _ _ _ _ (h .least .ensures) (b .least2 .ensures) (q .least3 .ensures) _ _ _ _ _ _ _ (o .feed .ensures)
 
 pub feed-spec : {M : Type 1} → statement M
 feed-spec =

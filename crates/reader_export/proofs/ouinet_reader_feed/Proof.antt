@@ -14,7 +14,7 @@ are-long-requires c κs = search needs
 returns : tie.Need-returns
 returns c =
     let l = c .before in
-    let a = l .before .before .before .before .before .before .before .before .args in
+    let a = l .before .before .before .before .before .before .before .before .before .args in
     let e = sym (l .are-long .ensures) ∙ not-true (l .are-long .result) (c .if1 .taken) in
     (call-short (now (a .state)) _ _ _ (now (a .result)) _ e, λ h. no (sym e ∙ h))
 
@@ -53,11 +53,11 @@ returns-2 c =
     let r = k .before .before .before .before in
     let n = r .before .before in
     let l = n .before in
-    let a = l .before .before .before .before .before .before .before .before .args in
+    let a = l .before .before .before .before .before .before .before .before .before .args in
     let e = sym (l .are-long .ensures) ∙ not-false (l .are-long .result) (n .if1 .left) in
     let s = now (a .state) in
     let t = now (a .result) in
-    let g = fed-in s (now (a .head)) (now (a .block)) (now (a .question)) _ (r .load .ensures) _ _ (now (a .ring)) (now (a .piece)) (k .keys-in .ensures) (o .feed .ensures) in
+    let g = fed-in s (now (a .head)) (now (a .block)) (now (a .question)) _ (r .load .ensures) _ _ (now (a .ring)) (now (a .uri)) (now (a .piece)) (k .keys-in .ensures) (o .feed .ensures) in
     (call-whole s t _ _ _ _ _ _ e g _ _ _ _ _ (f .finish .ensures .0), λ h. call-carried s t _ _ _ _ _ _ e g (f .finish .ensures .1))
 
 pub ouinet-reader-feed-spec : {M : Type 1} → statement M

@@ -7,8 +7,9 @@ mod in_body;
 mod in_head;
 mod in_signatures;
 
+use crate::case::{Answering, Case};
 use crate::head::Head;
-use crate::plan::{Built, Kind, Part, Plan, RingRecord};
+use crate::plan::{Built, Kind, Known, Part, Plan};
 use crate::rng::Rng;
 use second::event::Refusal;
 
@@ -60,21 +61,14 @@ pub struct Rule {
     part: PartEdit,
 }
 
-/// A stream with a broken rule and what a reader writes for it, all yes.
-pub struct Broken {
-    pub stream: Vec<u8>,
-    pub lines: Vec<String>,
-    pub body: Vec<u8>,
-    pub ring: Vec<RingRecord>,
-}
-
 impl Rule {
-    /// Breaks the rule at this spot of the plan's stream. The plan must have two full blocks and a
-    /// short one.
-    pub fn break_at(&self, spot: Spot, plan: &Plan, rng: &mut Rng) -> Broken {
+    /// Breaks the rule at this spot of the plan's stream, which is asked for by the plan's own URI. The plan
+    /// must have two full blocks and a short one.
+    fn break_at(&self, spot: Spot, plan: &Plan, rng: &mut Rng) -> Known {
+        let uri = plan.uri();
         let mut plan = plan.clone();
         (self.plan)(&mut plan);
-        let mut built = plan.build();
+        let mut built = Built { uri, ..plan.build() };
         let number = part_number(&built, spot, rng);
         if spot == Spot::Head {
             (self.head)(&mut built.head);
@@ -86,7 +80,13 @@ impl Rule {
         part.bytes = spoilt.bytes;
         let refusal = Refusal { number: self.number, at: spoilt.at };
         lines.push(refusal.to_string());
-        Broken { stream: built.bytes(), lines, body: built.body, ring: built.ring }
+        built.known(built.bytes(), lines)
+    }
+
+    /// The case of the rule broken there.
+    pub fn case(&self, spot: Spot, plan: &Plan, answering: Answering, rng: &mut Rng) -> Case {
+        let broken = self.break_at(spot, plan, rng);
+        Case::known(format!("{} at {spot:?}", self.label), broken, answering, rng)
     }
 }
 

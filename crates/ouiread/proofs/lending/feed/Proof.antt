@@ -4,7 +4,7 @@
 -- All that the proof knows of `within` and of `lent::feed` is that each meets its contract.
 -- Assumes nothing.
 use mathlib.Core.Path.{_≡_, refl, sym, ap, subst, _∙_}
-use Prim.Native.Nat.{ℕ, _<_, _≤_, _^_, min}
+use Prim.Native.Nat.{ℕ, _<_, _^_, min}
 use native.Mathlib.Omega.{arith}
 use mathlib.Core.List.{List, [], _∷_, _++_}
 use lib.Dec.{T as Holds}
@@ -62,7 +62,7 @@ use Rattle.state.specs.Configuration.{Configuration, configuration}
 use Rattle.state.specs.declared.reader.Reader.{Reader}
 use Rattle.state.proofs.reader.Reader as S
 use Rattle.state.proofs.reader.Reader.Laws as S′
-use Rattle.calls.specs.Response.{Response, made}
+use Rattle.calls.specs.Response.{made}
 use Rattle.calls.specs.declared.outcome.Outcome.{Outcome}
 use Rattle.calls.proofs.outcome.Outcome as O
 use Rattle.calls.proofs.outcome.Outcome.Laws as O′
@@ -103,7 +103,7 @@ tells : Tells B (Is B) spelled
 tells = array-tells K.the-row (LL.vals K.the-type K′.the-laws) (LL.tells K.the-type K′.the-laws) 16
 
 abbrev stayed : Stays (feed.ended .signature .params) (feed.ended .kept)
-stayed = (stay-none (λ _. S.the-row) yes, (gave-slice (0 ∷ []) tt (plain (λ _. u8)), (gave-slice (1 ∷ []) tt (plain (λ _. u8)), (gave-slice (2 ∷ []) tt (plain (λ _. u8)), (stay-none (λ _. B) yes, (stay-none (λ _. usize) yes, (stay-none-slice (3 ∷ []) tt (plain (λ _. u8)) yes, tt)))))))
+stayed = (stay-none (λ _. S.the-row) yes, (gave-slice (0 ∷ []) tt (plain (λ _. u8)), (gave-slice (1 ∷ []) tt (plain (λ _. u8)), (gave-slice (2 ∷ []) tt (plain (λ _. u8)), (stay-none (λ _. B) yes, (stay-none (λ _. usize) yes, (stay-none-slice (3 ∷ []) tt (plain (λ _. u8)) yes, (stay-none-slice (4 ∷ []) tt (plain (λ _. u8)) yes, tt))))))))
 
 -- a record in memory, as an element
 abbrev E : SemTy
@@ -165,26 +165,26 @@ val s = sliceVal (s .at) (length (s .xs))
 
 -- the three last lists that `lent::feed` tells, among what it tells of all its parameters
 abbrev Lasts : Type 0
-Lasts = Unit {0} × (List ℕ × (List ℕ × (List ℕ × (Unit {0} × (Unit {0} × Unit {0})))))
+Lasts = Unit {0} × (List ℕ × (List ℕ × (List ℕ × (Unit {0} × (Unit {0} × (Unit {0} × Unit {0}))))))
 
-module _ {M : Type 1} (𝓤 : URA M) (H : Heap 𝓤) (A : Atoms 𝓤) (W : Given 𝓤 H A) (mem : Memory → SProp 𝓤) (run : Routine → Fun 𝓤) (h b q p : Lent) (xs : List KeyRecord) (count : ℕ) (r : Reader) where
+module _ {M : Type 1} (𝓤 : URA M) (H : Heap 𝓤) (A : Atoms 𝓤) (W : Given 𝓤 H A) (mem : Memory → SProp 𝓤) (run : Routine → Fun 𝓤) (h b q u p : Lent) (xs : List KeyRecord) (count : ℕ) (r : Reader) where
   abbrev mach : Val
   mach = LL.val S.the-type S′.the-laws r
 
-  abbrev κs : Lft × (Lft × (Lft × (Lft × Unit {0})))
-  κs = (h .κ, (b .κ, (q .κ, (p .κ, tt))))
+  abbrev κs : Lft × (Lft × (Lft × (Lft × (Lft × Unit {0}))))
+  κs = (h .κ, (b .κ, (q .κ, (u .κ, (p .κ, tt)))))
 
-  abbrev qs : Share × (Share × (Share × (Share × Unit {0})))
-  qs = (h .q, (b .q, (q .q, (p .q, tt))))
+  abbrev qs : Share × (Share × (Share × (Share × (Share × Unit {0}))))
+  qs = (h .q, (b .q, (q .q, (u .q, (p .q, tt)))))
 
   abbrev Arg : Type 0
-  Arg = Reader × (RefT (List ℕ) × (RefT (List ℕ) × (RefT (List ℕ) × (List KeyRecord × (ℕ × (RefT (List ℕ) × Unit {0}))))))
+  Arg = Reader × (RefT (List ℕ) × (RefT (List ℕ) × (RefT (List ℕ) × (List KeyRecord × (ℕ × (RefT (List ℕ) × (RefT (List ℕ) × Unit {0})))))))
 
   abbrev a : Arg
-  a = (r, (ref h, (ref b, (ref q, (xs, (count, (ref p, tt)))))))
+  a = (r, (ref h, (ref b, (ref q, (xs, (count, (ref u, (ref p, tt))))))))
 
   abbrev vals : Vals feed.signature κs
-  vals = (mach ∷ [], (val h ∷ [], (val b ∷ [], (val q ∷ [], (spelled xs, (vint w64 count ∷ [], (val p ∷ [], tt)))))))
+  vals = (mach ∷ [], (val h ∷ [], (val b ∷ [], (val q ∷ [], (spelled xs, (vint w64 count ∷ [], (val u ∷ [], (val p ∷ [], tt))))))))
 
   abbrev Post : Val → SProp 𝓤
   Post = walkOf 𝓤 H A feed.ended stayed (feed.clauses 𝓤 H A mem run) .post ((κs, qs, tt, a, vals), tt)
@@ -210,15 +210,18 @@ module _ {M : Type 1} (𝓤 : URA M) (H : Heap 𝓤) (A : Atoms 𝓤) (W : Given
   abbrev OwnQ : Fml
   OwnQ = MutSlice (named 2) (q .κ) u8 .own (ref q) (val q ∷ [])
 
+  abbrev OwnU : Fml
+  OwnU = ShrSlice (named 3) (u .κ) u8 .own (ref u) (val u ∷ [])
+
   abbrev OwnP : Fml
-  OwnP = ShrSlice (named 3) (p .κ) u8 .own (ref p) (val p ∷ [])
+  OwnP = ShrSlice (named 4) (p .κ) u8 .own (ref p) (val p ∷ [])
 
   -- a slice's token
   abbrev tok : Lent → Item 𝓤
   tok s = ‵ (flft (s .κ) (s .q))
 
   abbrev Toks : Item 𝓤
-  Toks = tok h ⊛ (tok b ⊛ (tok q ⊛ (tok p ⊛ ‵ ftrue)))
+  Toks = tok h ⊛ (tok b ⊛ (tok q ⊛ (tok u ⊛ (tok p ⊛ ‵ ftrue))))
 
   module _ (ir : Is S.the-row r (mach ∷ [])) (is : Is B xs (spelled xs)) (count-fits : count < 2 ^ 64) where
     len : length xs ≡ 16
@@ -233,15 +236,15 @@ module _ {M : Type 1} (𝓤 : URA M) (H : Heap 𝓤) (A : Atoms 𝓤) (W : Given
     room : Room K.the-row (length ys)
     room = room-take K.the-row 16 n xs len (omega arith, omega arith)
 
-    exits : (c : Outcome) (w : Val) (zs : Lasts) → made c (zs .1 .0) (zs .1 .1 .0) (zs .1 .1 .1 .0) ≡ lentFeedOf ys d (p .xs)
+    exits : (c : Outcome) (w : Val) (zs : Lasts) → made c (zs .1 .0) (zs .1 .1 .0) (zs .1 .1 .1 .0) ≡ lentFeedOf ys (u .xs) d (p .xs)
         → length (zs .1 .0) ≡ length (h .xs) → length (zs .1 .1 .0) ≡ length (b .xs) → length (zs .1 .1 .1 .0) ≡ length (q .xs)
-        → ent 𝓤 (⋆ 𝓤 H A ((tok p ⊛ ‵ ftrue) ∷ tok q ∷ tok b ∷ tok h ∷ ‵ (finally u8 (q .γ) (zs .1 .1 .1 .0)) ∷ ‵ (finally u8 (b .γ) (zs .1 .1 .0)) ∷ ‵ (finally u8 (h .γ) (zs .1 .0)) ∷ ‵ OwnP ∷ ‵ (O.the-row .own c (w ∷ [])) ∷ [])) (Post w)
+        → ent 𝓤 (⋆ 𝓤 H A ((tok u ⊛ (tok p ⊛ ‵ ftrue)) ∷ tok q ∷ tok b ∷ tok h ∷ ‵ (finally u8 (q .γ) (zs .1 .1 .1 .0)) ∷ ‵ (finally u8 (b .γ) (zs .1 .1 .0)) ∷ ‵ (finally u8 (h .γ) (zs .1 .0)) ∷ ‵ OwnU ∷ ‵ OwnP ∷ ‵ (O.the-row .own c (w ∷ [])) ∷ [])) (Post w)
     exits c w zs e lh lb lq =
-        qed W ((tok p ⊛ ‵ ftrue) ∷ tok q ∷ tok b ∷ tok h ∷ ‵ (finally u8 (q .γ) (zs .1 .1 .1 .0)) ∷ ‵ (finally u8 (b .γ) (zs .1 .1 .0)) ∷ ‵ (finally u8 (h .γ) (zs .1 .0)) ∷ ‵ OwnP ∷ ‵ (O.the-row .own c (w ∷ [])) ∷ []) ∵
-        suffices ! _ (ends-at 𝓤 H A feed.ended stayed (feed.clauses 𝓤 H A mem run) W ((κs, qs, tt, a, vals), tt) w c (tt, (zs .1 .0, (zs .1 .1 .0, (zs .1 .1 .1 .0, (tt, (tt, (tt, tt))))))) (tt, (lh, (lb, (lq, (tt, (tt, (tt, tt)))))))) $ says ! e $
+        qed W ((tok u ⊛ (tok p ⊛ ‵ ftrue)) ∷ tok q ∷ tok b ∷ tok h ∷ ‵ (finally u8 (q .γ) (zs .1 .1 .1 .0)) ∷ ‵ (finally u8 (b .γ) (zs .1 .1 .0)) ∷ ‵ (finally u8 (h .γ) (zs .1 .0)) ∷ ‵ OwnU ∷ ‵ OwnP ∷ ‵ (O.the-row .own c (w ∷ [])) ∷ []) ∵
+        suffices ! _ (ends-at 𝓤 H A feed.ended stayed (feed.clauses 𝓤 H A mem run) W ((κs, qs, tt, a, vals), tt) w c (tt, (zs .1 .0, (zs .1 .1 .0, (zs .1 .1 .1 .0, (tt, (tt, (tt, (tt, tt)))))))) (tt, (lh, (lb, (lq, (tt, (tt, (tt, (tt, tt))))))))) $ says ! e $
         move ! (1 ∷ 0 ∷ []) $ join ! $ move ! (1 ∷ 0 ∷ []) $ join ! $ move ! (1 ∷ 0 ∷ []) $ join ! $ frame ! $
-        -- [q's last; b's; h's; what the piece owns; what the result owns]
-        nothing ! $ move ! (4 ∷ 0 ∷ []) $ fjoin ! $ owned ! usize (Is usize) (uint-makes 𝓤 H A W w64) count _ (refl, count-fits) $ fjoin ! $ owned ! B (Is B) (makes 𝓤 H A W) xs _ is $ fjoin ! $
+        -- [q's last; b's; h's; what the URI owns; what the piece owns; what the result owns]
+        nothing ! $ move ! (5 ∷ 0 ∷ []) $ fjoin ! $ move ! (4 ∷ 0 ∷ []) $ fjoin ! $ owned ! usize (Is usize) (uint-makes 𝓤 H A W w64) count _ (refl, count-fits) $ fjoin ! $ owned ! B (Is B) (makes 𝓤 H A W) xs _ is $ fjoin ! $
         move ! (1 ∷ 0 ∷ []) $ fjoin ! $ move ! (1 ∷ 0 ∷ []) $ fjoin ! $ move ! (1 ∷ 0 ∷ []) $ fjoin ! $
         owned ! S.the-row (Is S.the-row) (LL.makes S.the-type S′.the-plain 𝓤 H A) r _ ir $ fjoin ! $ frame ! $ done !
 
@@ -265,95 +268,96 @@ module _ {M : Type 1} (𝓤 : URA M) (H : Heap 𝓤) (A : Atoms 𝓤) (W : Given
     abbrev OwnK : ℕ → ℕ → GName → Fml
     OwnK l α γ = ShrSlice (named 3) (α ∷ []) K.the-row .own (keys l γ) (s l ∷ [])
 
-    abbrev κs′ : ℕ → Lft × (Lft × (Lft × (Lft × (Lft × Unit {0}))))
-    κs′ α = (h .κ, (b .κ, (q .κ, (α ∷ [], (p .κ, tt)))))
+    abbrev κs′ : ℕ → Lft × (Lft × (Lft × (Lft × (Lft × (Lft × Unit {0})))))
+    κs′ α = (h .κ, (b .κ, (q .κ, (α ∷ [], (u .κ, (p .κ, tt))))))
 
     abbrev Arg′ : Type 0
-    Arg′ = Reader × (RefT (List ℕ) × (RefT (List ℕ) × (RefT (List ℕ) × (RefT (List KeyRecord) × (RefT (List ℕ) × Unit {0})))))
+    Arg′ = Reader × (RefT (List ℕ) × (RefT (List ℕ) × (RefT (List ℕ) × (RefT (List KeyRecord) × (RefT (List ℕ) × (RefT (List ℕ) × Unit {0}))))))
 
     abbrev a′ : ℕ → GName → Arg′
-    a′ l γ = (r, (ref h, (ref b, (ref q, (keys l γ, (ref p, tt))))))
+    a′ l γ = (r, (ref h, (ref b, (ref q, (keys l γ, (ref u, (ref p, tt)))))))
 
     abbrev vals′ : (l α : ℕ) → Vals lent-feed.signature (κs′ α)
-    vals′ l α = (mach ∷ [], (val h ∷ [], (val b ∷ [], (val q ∷ [], (s l ∷ [], (val p ∷ [], tt))))))
+    vals′ l α = (mach ∷ [], (val h ∷ [], (val b ∷ [], (val q ∷ [], (s l ∷ [], (val u ∷ [], (val p ∷ [], tt)))))))
 
     abbrev to-feed : ℕ → ℕ → GName → LentFeed 𝓤 H A mem run .Ghost
-    to-feed l α γ = ((κs′ α, (h .q, (b .q, (q .q, (fullShare, (p .q, tt))))), tt, a′ l γ, vals′ l α), tt)
+    to-feed l α γ = ((κs′ α, (h .q, (b .q, (q .q, (fullShare, (u .q, (p .q, tt)))))), tt, a′ l γ, vals′ l α), tt)
 
     abbrev types′ : ℕ → List RattleType
-    types′ α = S.the-row ∷ MutSlice (named 0) (h .κ) u8 ∷ MutSlice (named 1) (b .κ) u8 ∷ MutSlice (named 2) (q .κ) u8 ∷ ShrSlice (named 3) (α ∷ []) K.the-row ∷ ShrSlice (named 4) (p .κ) u8 ∷ []
+    types′ α = S.the-row ∷ MutSlice (named 0) (h .κ) u8 ∷ MutSlice (named 1) (b .κ) u8 ∷ MutSlice (named 2) (q .κ) u8 ∷ ShrSlice (named 3) (α ∷ []) K.the-row ∷ ShrSlice (named 4) (u .κ) u8 ∷ ShrSlice (named 5) (p .κ) u8 ∷ []
 
     abbrev All : ℕ → Item 𝓤
-    All α = tok h ⊛ (tok b ⊛ (tok q ⊛ (‵ (flft (α ∷ []) fullShare) ⊛ (tok p ⊛ ‵ ftrue))))
+    All α = tok h ⊛ (tok b ⊛ (tok q ⊛ (‵ (flft (α ∷ []) fullShare) ⊛ (tok u ⊛ (tok p ⊛ ‵ ftrue)))))
 
     goes-feed : (l α : ℕ) (γ : GName) → ent 𝓤 (⋆ 𝓤 H A (All α ∷ ‵ (owns (types′ α) (a′ l γ) (vals′ l α)) ∷ [])) (LentFeed 𝓤 H A mem run .pre (to-feed l α γ))
     goes-feed l α γ = qed W (All α ∷ ‵ (owns (types′ α) (a′ l γ) (vals′ l α)) ∷ []) ∵ join ! $ frame ! $ done !
 
     -- what it says of the result and of the last lists
     abbrev Said : Outcome → Lasts → Type 0
-    Said c zs = made c (zs .1 .0) (zs .1 .1 .0) (zs .1 .1 .1 .0) ≡ lentFeedOf ys d (p .xs)
+    Said c zs = made c (zs .1 .0) (zs .1 .1 .0) (zs .1 .1 .1 .0) ≡ lentFeedOf ys (u .xs) d (p .xs)
 
     module _ (C : Calls 𝓤 H) (Λ : Loops 𝓤 H) (fm : FmC 𝓤 H (W .laws) C) (known-within : Triple 𝓤 (C #ouiread·lending·within) (Within 𝓤 H A mem run)) (known-feed : Triple 𝓤 (C #lent·feed) (LentFeed 𝓤 H A mem run)) where
-      walk : Room u8 (length (h .xs)) → Room u8 (length (b .xs)) → Room u8 (length (q .xs)) → Room u8 (length (p .xs))
-          → ent 𝓤 (onEntry 𝓤 H A feed.signature κs qs a vals) (WpFn 𝓤 H C Λ code.function (mach ∷ val h ∷ val b ∷ val q ∷ only (spelled xs) ∷ vint w64 count ∷ val p ∷ []) Post)
-      walk gh gb gq gp =
-          qed W (Toks ∷ ‵ (owns (S.the-row ∷ MutSlice (named 0) (h .κ) u8 ∷ MutSlice (named 1) (b .κ) u8 ∷ MutSlice (named 2) (q .κ) u8 ∷ B ∷ usize ∷ ShrSlice (named 3) (p .κ) u8 ∷ []) a vals) ∷ []) ∵
-          -- what each slice owns; the piece's, which is Copy, twice: for the call and for the exit
-          move ! (1 ∷ []) $ fsplit ! $ drop ! $ fsplit ! $ move ! (1 ∷ []) $ fsplit ! $ move ! (1 ∷ []) $ fsplit ! $ move ! (1 ∷ []) $ fsplit ! $ drop ! $ fsplit ! $ drop ! $ fsplit ! $
-          use1 W (‵ OwnP ⊛ ‵ OwnP) (shr-slice-copy 𝓤 H A W (named 3) (p .κ) u8 .twice (ref p) (val p ∷ [])) $ split ! $ keep ! (0 ∷ 1 ∷ 3 ∷ 4 ∷ 5 ∷ 6 ∷ []) $
-          -- [the piece's; the piece's; q's; b's; h's; the tokens]
-          move ! (5 ∷ []) $ split ! $ move ! (1 ∷ []) $ split ! $ move ! (1 ∷ []) $ split ! $ move ! (1 ∷ []) $ split ! $ keep ! (0 ∷ 2 ∷ 3 ∷ 4 ∷ 5 ∷ 6 ∷ 7 ∷ 8 ∷ 9 ∷ []) $
-          -- [the tokens of p, q, b and h; the piece's; the piece's; q's; b's; h's]
-          enter ! C Λ code.function (mach ∷ val h ∷ val b ∷ val q ∷ only (spelled xs) ∷ vint w64 count ∷ val p ∷ []) _ $
-          alloc1 ! (λ l₀. alloc1 ! (λ l₁. alloc1 ! (λ l₂. alloc1 ! (λ l₃. alloc1 ! (λ l₄. alloc1 ! (λ l₅. alloc1 ! (λ l₆. alloc1 ! (λ l₇. alloc1 ! (λ l₈. alloc1 ! (λ l₉. alloc1 ! (λ l₁₀. alloc1 ! (λ l₁₁. alloc1 ! (λ l₁₂. alloc1 ! (λ l₁₃. alloc1 ! (λ l₁₄. alloc1 ! (λ l₁₅. alloc1 ! (λ l₁₆. alloc1 ! (λ l₁₇. alloc0 ! $ params1 ! $
-          pass1 ! (init ! 32 refl (LL.lawful S.the-type S′.the-laws 𝓤 H A W .typed r _ ir .0)) $ pass1 ! (init ! 30 refl (tt, (tt, (record { fits = gh .0 }, tt)))) $ pass1 ! (init ! 28 refl (tt, (tt, (record { fits = gb .0 }, tt)))) $ pass1 ! (init ! 26 refl (tt, (tt, (record { fits = gq .0 }, tt)))) $
-          pass1 ! (init ! 24 refl typed) $ pass1 ! (init ! 22 refl (tt, record { fits = count-fits })) $ pass1 ! (init ! 20 refl (tt, (tt, (record { fits = gp .0 }, tt)))) $ pass0 ! $
-          -- [the locals, the last first, to 35; the tokens of p, q, b and h; the piece's; the piece's; q's; b's; h's]
-          assigns ! (of-opd ! (load ! (from ! (stop !)) (look ! 24 refl))) (from ! (stop !)) (init ! 18 refl typed) $
+      walk : Room u8 (length (h .xs)) → Room u8 (length (b .xs)) → Room u8 (length (q .xs)) → Room u8 (length (u .xs)) → Room u8 (length (p .xs))
+          → ent 𝓤 (onEntry 𝓤 H A feed.signature κs qs a vals) (WpFn 𝓤 H C Λ code.function (mach ∷ val h ∷ val b ∷ val q ∷ only (spelled xs) ∷ vint w64 count ∷ val u ∷ val p ∷ []) Post)
+      walk gh gb gq gu gp =
+          qed W (Toks ∷ ‵ (owns (S.the-row ∷ MutSlice (named 0) (h .κ) u8 ∷ MutSlice (named 1) (b .κ) u8 ∷ MutSlice (named 2) (q .κ) u8 ∷ B ∷ usize ∷ ShrSlice (named 3) (u .κ) u8 ∷ ShrSlice (named 4) (p .κ) u8 ∷ []) a vals) ∷ []) ∵
+          -- what each slice owns; the URI's and the piece's, which are Copy, twice: for the call and for the exit
+          move ! (1 ∷ []) $ fsplit ! $ drop ! $ fsplit ! $ move ! (1 ∷ []) $ fsplit ! $ move ! (1 ∷ []) $ fsplit ! $ move ! (1 ∷ []) $ fsplit ! $ drop ! $ fsplit ! $ drop ! $ fsplit ! $ move ! (1 ∷ []) $ fsplit ! $
+          use1 W (‵ OwnP ⊛ ‵ OwnP) (shr-slice-copy 𝓤 H A W (named 4) (p .κ) u8 .twice (ref p) (val p ∷ [])) $ split ! $
+          move ! (3 ∷ []) $ use1 W (‵ OwnU ⊛ ‵ OwnU) (shr-slice-copy 𝓤 H A W (named 3) (u .κ) u8 .twice (ref u) (val u ∷ [])) $ split ! $ keep ! (0 ∷ 1 ∷ 2 ∷ 3 ∷ 5 ∷ 6 ∷ 7 ∷ 8 ∷ []) $
+          -- [the URI's; the URI's; the piece's; the piece's; q's; b's; h's; the tokens]
+          move ! (7 ∷ []) $ split ! $ move ! (1 ∷ []) $ split ! $ move ! (1 ∷ []) $ split ! $ move ! (1 ∷ []) $ split ! $ move ! (1 ∷ []) $ split ! $ keep ! (0 ∷ 2 ∷ 3 ∷ 4 ∷ 5 ∷ 6 ∷ 7 ∷ 8 ∷ 9 ∷ 10 ∷ 11 ∷ 12 ∷ []) $
+          -- [the tokens of p, u, q, b and h; the URI's; the URI's; the piece's; the piece's; q's; b's; h's]
+          enter ! C Λ code.function (mach ∷ val h ∷ val b ∷ val q ∷ only (spelled xs) ∷ vint w64 count ∷ val u ∷ val p ∷ []) _ $
+          alloc1 ! (λ l₀. alloc1 ! (λ l₁. alloc1 ! (λ l₂. alloc1 ! (λ l₃. alloc1 ! (λ l₄. alloc1 ! (λ l₅. alloc1 ! (λ l₆. alloc1 ! (λ l₇. alloc1 ! (λ l₈. alloc1 ! (λ l₉. alloc1 ! (λ l₁₀. alloc1 ! (λ l₁₁. alloc1 ! (λ l₁₂. alloc1 ! (λ l₁₃. alloc1 ! (λ l₁₄. alloc1 ! (λ l₁₅. alloc1 ! (λ l₁₆. alloc1 ! (λ l₁₇. alloc1 ! (λ l₁₈. alloc0 ! $ params1 ! $
+          pass1 ! (init ! 34 refl (LL.lawful S.the-type S′.the-laws 𝓤 H A W .typed r _ ir .0)) $ pass1 ! (init ! 32 refl (tt, (tt, (record { fits = gh .0 }, tt)))) $ pass1 ! (init ! 30 refl (tt, (tt, (record { fits = gb .0 }, tt)))) $ pass1 ! (init ! 28 refl (tt, (tt, (record { fits = gq .0 }, tt)))) $
+          pass1 ! (init ! 26 refl typed) $ pass1 ! (init ! 24 refl (tt, record { fits = count-fits })) $ pass1 ! (init ! 22 refl (tt, (tt, (record { fits = gu .0 }, tt)))) $ pass1 ! (init ! 20 refl (tt, (tt, (record { fits = gp .0 }, tt)))) $ pass0 ! $
+          -- [the locals, the last first, to 37; the tokens of p, u, q, b and h; the URI's; the URI's; the piece's; the piece's; q's; b's; h's]
+          assigns ! (of-opd ! (load ! (from ! (stop !)) (look ! 26 refl))) (from ! (stop !)) (init ! 18 refl typed) $
           nothing ! $ use1 W (raw (Within 𝓤 H A mem run .pre to-within)) goes-within $
-          calls-at ! fm (Within 𝓤 H A mem run) known-within to-within (and-then ! (load ! (from ! (stop !)) (look ! 23 refl)) (no-more !)) (λ v.
+          calls-at ! fm (Within 𝓤 H A mem run) known-within to-within (and-then ! (load ! (from ! (stop !)) (look ! 25 refl)) (no-more !)) (λ v.
           use1 W (later (some (λ (k : ℕ). (‵ ftrue ⊛ ‵ (usize .own k (v ∷ []))) ⊛ raw (ensured 𝓤 H A within.ended (within.clauses 𝓤 H A mem run) tt (count, tt) tt k)))) (id⊢ 𝓤 _) $ await ! tt $ pick ! (λ k.
           split ! $ move ! (1 ∷ []) $ use1 W (raw (fact 𝓤 (k ≡ n))) (said-within k) $ heard ! (k ≡ n) (λ few. split ! $ drop ! $
           peeks ! usize (Is usize) (shows 𝓤 H A usize) k (v ∷ []) (λ iv.
           land ! (from ! (stop !)) (init ! 17 refl (uint-lawful 𝓤 H A W w64 .typed k _ iv .0)) $ drop ! $
-          rewrite ! 16 (λ (z : Val). ‵ (fat fullShare (tyInt w64) l₉ 0 z)) (ap only (iv .0) ∙ ap (vint w64) few) refl $
+          rewrite ! 16 (λ (z : Val). ‵ (fat fullShare (tyInt w64) l₁₀ 0 z)) (ap only (iv .0) ∙ ap (vint w64) few) refl $
           -- the buffers, and the front of the array
-          assigns ! (addr ! (from ! (fld ! refl (hop ! (look-in ! 30 (sub ! 0 refl (whole !))) (stop !))))) (from ! (stop !)) (init ! 14 refl (tt, tt)) $
-          assigns ! (agg ! (and-then ! (load ! (from ! (stop !)) (look ! 14 refl)) (and-then ! (load ! (from ! (fld ! refl (stop !))) (look-in ! 30 (sub ! 1 refl (whole !)))) (no-more !)))) (from ! (stop !)) (init ! 12 refl (tt, (tt, (record { fits = gh .0 }, tt)))) $
-          assigns ! (addr ! (from ! (fld ! refl (hop ! (look-in ! 28 (sub ! 0 refl (whole !))) (stop !))))) (from ! (stop !)) (init ! 10 refl (tt, tt)) $
-          assigns ! (agg ! (and-then ! (load ! (from ! (stop !)) (look ! 10 refl)) (and-then ! (load ! (from ! (fld ! refl (stop !))) (look-in ! 28 (sub ! 1 refl (whole !)))) (no-more !)))) (from ! (stop !)) (init ! 8 refl (tt, (tt, (record { fits = gb .0 }, tt)))) $
-          assigns ! (addr ! (from ! (fld ! refl (hop ! (look-in ! 26 (sub ! 0 refl (whole !))) (stop !))))) (from ! (stop !)) (init ! 6 refl (tt, tt)) $
-          assigns ! (agg ! (and-then ! (load ! (from ! (stop !)) (look ! 6 refl)) (and-then ! (load ! (from ! (fld ! refl (stop !))) (look-in ! 26 (sub ! 1 refl (whole !)))) (no-more !)))) (from ! (stop !)) (init ! 4 refl (tt, (tt, (record { fits = gq .0 }, tt)))) $
+          assigns ! (addr ! (from ! (fld ! refl (hop ! (look-in ! 32 (sub ! 0 refl (whole !))) (stop !))))) (from ! (stop !)) (init ! 14 refl (tt, tt)) $
+          assigns ! (agg ! (and-then ! (load ! (from ! (stop !)) (look ! 14 refl)) (and-then ! (load ! (from ! (fld ! refl (stop !))) (look-in ! 32 (sub ! 1 refl (whole !)))) (no-more !)))) (from ! (stop !)) (init ! 12 refl (tt, (tt, (record { fits = gh .0 }, tt)))) $
+          assigns ! (addr ! (from ! (fld ! refl (hop ! (look-in ! 30 (sub ! 0 refl (whole !))) (stop !))))) (from ! (stop !)) (init ! 10 refl (tt, tt)) $
+          assigns ! (agg ! (and-then ! (load ! (from ! (stop !)) (look ! 10 refl)) (and-then ! (load ! (from ! (fld ! refl (stop !))) (look-in ! 30 (sub ! 1 refl (whole !)))) (no-more !)))) (from ! (stop !)) (init ! 8 refl (tt, (tt, (record { fits = gb .0 }, tt)))) $
+          assigns ! (addr ! (from ! (fld ! refl (hop ! (look-in ! 28 (sub ! 0 refl (whole !))) (stop !))))) (from ! (stop !)) (init ! 6 refl (tt, tt)) $
+          assigns ! (agg ! (and-then ! (load ! (from ! (stop !)) (look ! 6 refl)) (and-then ! (load ! (from ! (fld ! refl (stop !))) (look-in ! 28 (sub ! 1 refl (whole !)))) (no-more !)))) (from ! (stop !)) (init ! 4 refl (tt, (tt, (record { fits = gq .0 }, tt)))) $
           assigns ! (addr ! (from ! (stop !))) (from ! (stop !)) (init ! 2 refl (tt, tt)) $
           assigns ! (agg ! (and-then ! (load ! (from ! (stop !)) (look ! 2 refl)) (and-then ! (load ! (from ! (stop !)) (look ! 16 refl)) (no-more !)))) (from ! (stop !)) (init ! 0 refl (tt, (tt, (record { fits = n-fits }, tt)))) $
-          rewrite ! 0 (λ (m : ℕ). ‵ (fat fullShare (sliceTy (tyRef erased imm (pointee (K.the-row .written)))) l₁₇ 0 (sliceVal (l₈, 0) m))) (sym lent-len) refl $
+          rewrite ! 0 (λ (m : ℕ). ‵ (fat fullShare (sliceTy (tyRef erased imm (pointee (K.the-row .written)))) l₁₈ 0 (sliceVal (l₉, 0) m))) (sym lent-len) refl $
           -- the front is lent for a lifetime α of the call
-          move ! (18 ∷ []) $ use1 W (‵ (Front ys l₈) ⊛ ‵ (Rest n xs l₈)) (apart 𝓤 H A W n xs l₈ len is) $ split ! $ lft-new ! tt (λ α. move ! (1 ∷ []) $
-          use1 W (later (some (λ (γ : GName). ‵ (OwnK l₈ α γ) ⊛ ‵ (flent (α ∷ []) (Front ys l₈))))) (lends-shr-slice 𝓤 H A W K.the-row (named 3) (α ∷ []) fullShare ys l₈ 0 room) $ await ! tt $ pick ! (λ γ. split ! $
-          -- [the records'; the lender's part; α's token; the rest of the array; the locals, from 4 to 38, of _8 only that it dies; the tokens of p, q, b and h; the piece's; the piece's; q's; b's; h's]
-          nothing ! $ move ! (44 ∷ 0 ∷ []) $ fjoin ! $ move ! (1 ∷ 0 ∷ []) $ fjoin ! $ move ! (44 ∷ 0 ∷ []) $ fjoin ! $ move ! (44 ∷ 0 ∷ []) $ fjoin ! $ move ! (44 ∷ 0 ∷ []) $ fjoin ! $
+          move ! (18 ∷ []) $ use1 W (‵ (Front ys l₉) ⊛ ‵ (Rest n xs l₉)) (apart 𝓤 H A W n xs l₉ len is) $ split ! $ lft-new ! tt (λ α. move ! (1 ∷ []) $
+          use1 W (later (some (λ (γ : GName). ‵ (OwnK l₉ α γ) ⊛ ‵ (flent (α ∷ []) (Front ys l₉))))) (lends-shr-slice 𝓤 H A W K.the-row (named 3) (α ∷ []) fullShare ys l₉ 0 room) $ await ! tt $ pick ! (λ γ. split ! $
+          -- [the records'; the lender's part; α's token; the rest of the array; the locals, from 4 to 40, of _9 only that it dies; the tokens of p, u, q, b and h; the URI's; the URI's; the piece's; the piece's; q's; b's; h's]
+          nothing ! $ move ! (49 ∷ 0 ∷ []) $ fjoin ! $ move ! (47 ∷ 0 ∷ []) $ fjoin ! $ move ! (1 ∷ 0 ∷ []) $ fjoin ! $ move ! (48 ∷ 0 ∷ []) $ fjoin ! $ move ! (48 ∷ 0 ∷ []) $ fjoin ! $ move ! (48 ∷ 0 ∷ []) $ fjoin ! $
           owned ! S.the-row (Is S.the-row) (LL.makes S.the-type S′.the-plain 𝓤 H A) r _ ir $ fjoin ! $
-          nothing ! $ move ! (40 ∷ 0 ∷ []) $ join ! $ move ! (3 ∷ 0 ∷ []) $ join ! $ move ! (39 ∷ 0 ∷ []) $ join ! $ move ! (39 ∷ 0 ∷ []) $ join ! $ move ! (39 ∷ 0 ∷ []) $ join ! $
-          use2 W (raw (LentFeed 𝓤 H A mem run .pre (to-feed l₈ α γ))) (goes-feed l₈ α γ) $
-          -- [what `lent::feed` asks; the lender's part; the rest of the array; the locals, from 3 to 37; the piece's]
-          calls-at ! fm (LentFeed 𝓤 H A mem run) known-feed (to-feed l₈ α γ)
-          (and-then ! (load ! (from ! (stop !)) (look ! 34 refl)) (and-then ! (load ! (from ! (stop !)) (look ! 15 refl)) (and-then ! (load ! (from ! (stop !)) (look ! 11 refl)) (and-then ! (load ! (from ! (stop !)) (look ! 7 refl)) (and-then ! (load ! (from ! (stop !)) (look ! 3 refl)) (and-then ! (load ! (from ! (stop !)) (look ! 22 refl)) (no-more !))))))) (λ w.
-          use1 W (later (some (λ (c : Outcome). (All α ⊛ ‵ (O.the-row .own c (w ∷ []))) ⊛ raw (ensured 𝓤 H A lent-feed.ended (lent-feed.clauses 𝓤 H A mem run) (κs′ α) (a′ l₈ γ) tt c)))) (id⊢ 𝓤 _) $ await ! tt $ pick ! (λ c.
+          nothing ! $ move ! (42 ∷ 0 ∷ []) $ join ! $ move ! (42 ∷ 0 ∷ []) $ join ! $ move ! (3 ∷ 0 ∷ []) $ join ! $ move ! (41 ∷ 0 ∷ []) $ join ! $ move ! (41 ∷ 0 ∷ []) $ join ! $ move ! (41 ∷ 0 ∷ []) $ join ! $
+          use2 W (raw (LentFeed 𝓤 H A mem run .pre (to-feed l₉ α γ))) (goes-feed l₉ α γ) $
+          -- [what `lent::feed` asks; the lender's part; the rest of the array; the locals, from 3 to 39; the URI's; the piece's]
+          calls-at ! fm (LentFeed 𝓤 H A mem run) known-feed (to-feed l₉ α γ)
+          (and-then ! (load ! (from ! (stop !)) (look ! 36 refl)) (and-then ! (load ! (from ! (stop !)) (look ! 15 refl)) (and-then ! (load ! (from ! (stop !)) (look ! 11 refl)) (and-then ! (load ! (from ! (stop !)) (look ! 7 refl)) (and-then ! (load ! (from ! (stop !)) (look ! 3 refl)) (and-then ! (load ! (from ! (stop !)) (look ! 24 refl)) (and-then ! (load ! (from ! (stop !)) (look ! 22 refl)) (no-more !)))))))) (λ w.
+          use1 W (later (some (λ (c : Outcome). (All α ⊛ ‵ (O.the-row .own c (w ∷ []))) ⊛ raw (ensured 𝓤 H A lent-feed.ended (lent-feed.clauses 𝓤 H A mem run) (κs′ α) (a′ l₉ γ) tt c)))) (id⊢ 𝓤 _) $ await ! tt $ pick ! (λ c.
           -- what it ensures, at some last lists
-          split ! $ move ! (1 ∷ []) $ use1 W (some (λ (zs : Lasts). ‵ (lasts lent-feed.ended (κs′ α) (a′ l₈ γ) zs) ⊛ raw (fact 𝓤 (Said c zs)))) (id⊢ 𝓤 _) $ pick ! (λ zs.
+          split ! $ move ! (1 ∷ []) $ use1 W (some (λ (zs : Lasts). ‵ (lasts lent-feed.ended (κs′ α) (a′ l₉ γ) zs) ⊛ raw (fact 𝓤 (Said c zs)))) (id⊢ 𝓤 _) $ pick ! (λ zs.
           split ! $ move ! (1 ∷ []) $ heard ! (Said c zs) (λ e. fsplit ! $ drop ! $ fsplit ! $ fsplit ! $ move ! (1 ∷ []) $ feqL ! (λ lh.
           move ! (1 ∷ []) $ fsplit ! $ fsplit ! $ move ! (1 ∷ []) $ feqL ! (λ lb. move ! (1 ∷ []) $ fsplit ! $ fsplit ! $ move ! (1 ∷ []) $ feqL ! (λ lq.
-          -- [q's last list; …; b's; h's; the tokens and the result; the lender's part; the rest of the array; the locals, from 7 to 41; the piece's]
+          -- [q's last list; …; b's; h's; the tokens and the result; the lender's part; the rest of the array; the locals, from 7 to 43; the URI's; the piece's]
           move ! (4 ∷ []) $ split ! $ move ! (1 ∷ []) $ peeks ! O.the-row (Is O.the-row) (shows 𝓤 H A O.the-row) c (w ∷ []) (λ ic.
-          land ! (from ! (stop !)) (init ! 41 refl (LL.lawful O.the-type O′.the-laws 𝓤 H A W .typed c _ ic .0)) $
+          land ! (from ! (stop !)) (init ! 43 refl (LL.lawful O.the-type O′.the-laws 𝓤 H A W .typed c _ ic .0)) $
           -- the lifetime is ended, and the array is whole again
           move ! (1 ∷ []) $ split ! $ move ! (1 ∷ []) $ split ! $ move ! (1 ∷ []) $ split ! $ move ! (1 ∷ []) $ split ! $ lft-end ! tt $ move ! (0 ∷ 10 ∷ []) $ lent-back ! tt $
-          move ! (0 ∷ 10 ∷ []) $ use2 W (‵ (fat fullShare Mir l₈ 0 (only (spelled xs)))) (again 𝓤 H A W n xs l₈ len) $
-          -- [_8; p's token; q's; b's; h's; the result; q's last list; …; b's; h's; the locals, from 10 to 44, of _8 only that it dies; the piece's]
-          returns ! (look ! 43 refl) $ forget ! 0 refl $ forget ! 10 refl $ forget ! 12 refl $ forget ! 14 refl $ forget ! 16 refl $ forget ! 18 refl $ forget ! 20 refl $ forget ! 22 refl $ forget ! 24 refl $ forget ! 26 refl $ forget ! 29 refl $ forget ! 31 refl $ forget ! 33 refl $ forget ! 35 refl $ forget ! 37 refl $ forget ! 39 refl $ forget ! 41 refl $ forget ! 43 refl $
-          move ! (43 ∷ 44 ∷ []) $ free1 ! $ move ! (41 ∷ 42 ∷ []) $ free1 ! $ move ! (39 ∷ 40 ∷ []) $ free1 ! $ move ! (37 ∷ 38 ∷ []) $ free1 ! $ move ! (35 ∷ 36 ∷ []) $ free1 ! $ move ! (33 ∷ 34 ∷ []) $ free1 ! $ move ! (31 ∷ 32 ∷ []) $ free1 ! $ move ! (29 ∷ 30 ∷ []) $ free1 ! $ move ! (0 ∷ 28 ∷ []) $ free1 ! $
+          move ! (0 ∷ 10 ∷ []) $ use2 W (‵ (fat fullShare Mir l₉ 0 (only (spelled xs)))) (again 𝓤 H A W n xs l₉ len) $
+          -- [_9; the tokens of u and p; q's; b's; h's; the result; q's last list; …; b's; h's; the locals, from 10 to 46, of _9 only that it dies; the URI's; the piece's]
+          returns ! (look ! 45 refl) $ forget ! 0 refl $ forget ! 10 refl $ forget ! 12 refl $ forget ! 14 refl $ forget ! 16 refl $ forget ! 18 refl $ forget ! 20 refl $ forget ! 22 refl $ forget ! 24 refl $ forget ! 26 refl $ forget ! 29 refl $ forget ! 31 refl $ forget ! 33 refl $ forget ! 35 refl $ forget ! 37 refl $ forget ! 39 refl $ forget ! 41 refl $ forget ! 43 refl $ forget ! 45 refl $
+          move ! (45 ∷ 46 ∷ []) $ free1 ! $ move ! (43 ∷ 44 ∷ []) $ free1 ! $ move ! (41 ∷ 42 ∷ []) $ free1 ! $ move ! (39 ∷ 40 ∷ []) $ free1 ! $ move ! (37 ∷ 38 ∷ []) $ free1 ! $ move ! (35 ∷ 36 ∷ []) $ free1 ! $ move ! (33 ∷ 34 ∷ []) $ free1 ! $ move ! (31 ∷ 32 ∷ []) $ free1 ! $ move ! (29 ∷ 30 ∷ []) $ free1 ! $ move ! (0 ∷ 28 ∷ []) $ free1 ! $
           move ! (25 ∷ 26 ∷ []) $ free1 ! $ move ! (23 ∷ 24 ∷ []) $ free1 ! $ move ! (21 ∷ 22 ∷ []) $ free1 ! $ move ! (19 ∷ 20 ∷ []) $ free1 ! $ move ! (17 ∷ 18 ∷ []) $ free1 ! $ move ! (15 ∷ 16 ∷ []) $ free1 ! $ move ! (13 ∷ 14 ∷ []) $ free1 ! $ move ! (11 ∷ 12 ∷ []) $ free1 ! $ move ! (9 ∷ 10 ∷ []) $ free1 ! $ free0 ! $
-          keep ! (0 ∷ 1 ∷ 2 ∷ 3 ∷ 5 ∷ 7 ∷ 8 ∷ 9 ∷ 4 ∷ []) $ by ! (exits c w zs e lh lb lq)))))))))))))))))))))))))))))))))
+          keep ! (0 ∷ 1 ∷ 2 ∷ 3 ∷ 5 ∷ 7 ∷ 8 ∷ 9 ∷ 10 ∷ 4 ∷ []) $ by ! (exits c w zs e lh lb lq))))))))))))))))))))))))))))))))))
         where
           typed : Holds (hasTy Mir (only (spelled xs))) × WT (only (spelled xs))
           typed = array-lawful 𝓤 H A W K.the-row (LL.lawful K.the-type K′.the-laws 𝓤 H A W) 16 .typed xs _ is .0
@@ -366,18 +370,18 @@ module _ {M : Type 1} (𝓤 : URA M) (H : Heap 𝓤) (A : Atoms 𝓤) (W : Given
   feed-walks : (C : Calls 𝓤 H) (Λ : Loops 𝓤 H) → FmC 𝓤 H (W .laws) C → Triple 𝓤 (C #ouiread·lending·within) (Within 𝓤 H A mem run) → Triple 𝓤 (C #lent·feed) (LentFeed 𝓤 H A mem run)
       → Walks 𝓤 H A feed.ended stayed (WpFn 𝓤 H C Λ code.function) (feed.clauses 𝓤 H A mem run)
   feed-walks C Λ fm known-within known-feed = walked 𝓤 H A feed.ended stayed (feed.clauses 𝓤 H A mem run) (WpFn 𝓤 H C Λ code.function)
-      (λ κs. (LL.vals S.the-type S′.the-laws, (slice-vals, (slice-vals, (slice-vals, (spelled, (uint-vals w64, (slice-vals, tt))))))))
-      (λ κs. (LL.tells S.the-type S′.the-laws, (mut-slice-tells (named 0) (κs .0) u8, (mut-slice-tells (named 1) (κs .1 .0) u8, (mut-slice-tells (named 2) (κs .1 .1 .0) u8, (tells, (uint-tells w64, (shr-slice-tells (named 3) (κs .1 .1 .1 .0) u8, tt))))))))
+      (λ κs. (LL.vals S.the-type S′.the-laws, (slice-vals, (slice-vals, (slice-vals, (spelled, (uint-vals w64, (slice-vals, (slice-vals, tt)))))))))
+      (λ κs. (LL.tells S.the-type S′.the-laws, (mut-slice-tells (named 0) (κs .0) u8, (mut-slice-tells (named 1) (κs .1 .0) u8, (mut-slice-tells (named 2) (κs .1 .1 .0) u8, (tells, (uint-tells w64, (shr-slice-tells (named 3) (κs .1 .1 .1 .0) u8, (shr-slice-tells (named 4) (κs .1 .1 .1 .1 .0) u8, tt)))))))))
       (λ κs qs bounds a g are. via 𝓤 _ (fst∗ 𝓤 _ (emp 𝓤))
-      (walk 𝓤 H A W mem run (given-slice (κs .0) (qs .0) (a .1 .0)) (given-slice (κs .1 .0) (qs .1 .0) (a .1 .1 .0)) (given-slice (κs .1 .1 .0) (qs .1 .1 .0) (a .1 .1 .1 .0)) (given-slice (κs .1 .1 .1 .0) (qs .1 .1 .1 .0) (a .1 .1 .1 .1 .1 .1 .0)) (a .1 .1 .1 .1 .0) (a .1 .1 .1 .1 .1 .0) (a .0)
-      (are .0) (are .1 .1 .1 .1 .0) (are .1 .1 .1 .1 .1 .0 .1) C Λ fm known-within known-feed (are .1 .0 .0 .1) (are .1 .1 .0 .0 .1) (are .1 .1 .1 .0 .0 .1) (are .1 .1 .1 .1 .1 .1 .0 .0 .1)))
+      (walk 𝓤 H A W mem run (given-slice (κs .0) (qs .0) (a .1 .0)) (given-slice (κs .1 .0) (qs .1 .0) (a .1 .1 .0)) (given-slice (κs .1 .1 .0) (qs .1 .1 .0) (a .1 .1 .1 .0)) (given-slice (κs .1 .1 .1 .0) (qs .1 .1 .1 .0) (a .1 .1 .1 .1 .1 .1 .0)) (given-slice (κs .1 .1 .1 .1 .0) (qs .1 .1 .1 .1 .0) (a .1 .1 .1 .1 .1 .1 .1 .0)) (a .1 .1 .1 .1 .0) (a .1 .1 .1 .1 .1 .0) (a .0)
+      (are .0) (are .1 .1 .1 .1 .0) (are .1 .1 .1 .1 .1 .0 .1) C Λ fm known-within known-feed (are .1 .0 .0 .1) (are .1 .1 .0 .0 .1) (are .1 .1 .1 .0 .0 .1) (are .1 .1 .1 .1 .1 .1 .0 .0 .1) (are .1 .1 .1 .1 .1 .1 .1 .0 .0 .1)))
 
 feed-meets : {M : Type 1} (𝓤 : URA M) (H : Heap 𝓤) (A : Atoms 𝓤) (W : Given 𝓤 H A) (mem : Memory → SProp 𝓤) (run : Routine → Fun 𝓤) (𝓣 : Tables 𝓤 H)
     → Triple 𝓤 (𝓣 .C #ouiread·lending·within) (Within 𝓤 H A mem run) → Triple 𝓤 (𝓣 .C #lent·feed) (LentFeed 𝓤 H A mem run)
     → Meets 𝓤 H A feed.signature (WpFn 𝓤 H (𝓣 .C) (𝓣 .Λ) code.function) (feed.spec 𝓤 H A mem run)
 feed-meets 𝓤 H A W mem run 𝓣 known-within known-feed =
     walk-meets 𝓤 H A feed.ended stayed W
-    (goes-none 𝓤 H A W 4 (λ _. S.the-row) yes (λ κs x f. refl), (goes-gave-slice 𝓤 H A W 4 0 tt (plain (λ _. u8)), (goes-gave-slice 𝓤 H A W 4 1 tt (plain (λ _. u8)), (goes-gave-slice 𝓤 H A W 4 2 tt (plain (λ _. u8)), (goes-none 𝓤 H A W 4 (λ _. B) yes (λ κs x f. refl), (goes-none 𝓤 H A W 4 (λ _. usize) yes (λ κs x f. refl), (goes-none-slice 𝓤 H A W 4 (3 ∷ []) tt (plain (λ _. u8)) yes, tt)))))))
+    (goes-none 𝓤 H A W 5 (λ _. S.the-row) yes (λ κs x f. refl), (goes-gave-slice 𝓤 H A W 5 0 tt (plain (λ _. u8)), (goes-gave-slice 𝓤 H A W 5 1 tt (plain (λ _. u8)), (goes-gave-slice 𝓤 H A W 5 2 tt (plain (λ _. u8)), (goes-none 𝓤 H A W 5 (λ _. B) yes (λ κs x f. refl), (goes-none 𝓤 H A W 5 (λ _. usize) yes (λ κs x f. refl), (goes-none-slice 𝓤 H A W 5 (3 ∷ []) tt (plain (λ _. u8)) yes, (goes-none-slice 𝓤 H A W 5 (4 ∷ []) tt (plain (λ _. u8)) yes, tt))))))))
     (feed.clauses 𝓤 H A mem run)
     (WpFn 𝓤 H (𝓣 .C) (𝓣 .Λ) code.function) (WpFn-mono 𝓤 H (W .laws) 𝓣 code.function) (feed-walks 𝓤 H A W mem run (𝓣 .C) (𝓣 .Λ) (fmOf 𝓤 H (W .laws) 𝓣) known-within known-feed)
 

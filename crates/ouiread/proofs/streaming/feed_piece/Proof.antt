@@ -5,10 +5,10 @@ use Rattle.ouiread.proofs.streaming.feed_piece.Statement.{statement}
 use Rattle.ouiread.proofs.streaming.feed_piece.Tie as tie
 
 abbrev Inv-loop : tie.InvT-loop
-Inv-loop head₀ block₀ question₀ ring piece sitting₀ at₀ turns₀ head block question sitting at turns = Unit {0}
+Inv-loop head₀ block₀ question₀ ring uri piece sitting₀ at₀ turns₀ head block question sitting at turns = Unit {0}
 
 abbrev μ-loop : tie.MeasureT-loop
-μ-loop head₀ block₀ question₀ ring piece sitting₀ at₀ turns₀ head block question sitting at turns = turns
+μ-loop head₀ block₀ question₀ ring uri piece sitting₀ at₀ turns₀ head block question sitting at turns = turns
 
 loop-holds : tie.Need-loop-holds Inv-loop μ-loop
 loop-holds c = tt

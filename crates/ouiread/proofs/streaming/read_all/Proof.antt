@@ -5,11 +5,11 @@ use Rattle.ouiread.proofs.streaming.read_all.Statement.{statement}
 use Rattle.ouiread.proofs.streaming.read_all.Tie as tie
 
 abbrev Inv-loop : tie.InvT-loop
-Inv-loop head₀ block₀ question₀ piece₀ cuts ring stream sitting₀ place₀ turns₀ head block question piece sitting place turns =
+Inv-loop head₀ block₀ question₀ piece₀ cuts ring uri stream sitting₀ place₀ turns₀ head block question piece sitting place turns =
     Unit {0}
 
 abbrev μ-loop : tie.MeasureT-loop
-μ-loop head₀ block₀ question₀ piece₀ cuts ring stream sitting₀ place₀ turns₀ head block question piece sitting place turns =
+μ-loop head₀ block₀ question₀ piece₀ cuts ring uri stream sitting₀ place₀ turns₀ head block question piece sitting place turns =
     turns
 
 loop-holds : tie.Need-loop-holds Inv-loop μ-loop

@@ -9,7 +9,7 @@ use mathlib.Core.Path.{_≡_, sym, ap, _∙_}
 use native.Mathlib.Omega.{arith}
 use Prim.Native.Nat.{ℕ, _+_, _-_, _≤_}
 use lib.ListN.{length, drop}
-use Rattle.ring.specs.Keys.{ringOf}
+use Rattle.ring.specs.Keys.{termsOf}
 use Rattle.state.specs.Configuration.{configuration, goesOn}
 use Rattle.state.specs.Run.{Fed, event, runOf}
 use Rattle.reader.specs.Feed.{pushByte, fed, takenFrom}
@@ -18,11 +18,11 @@ use Rattle.reader.proofs.feeding.take.Statement.{statement}
 use Rattle.reader.proofs.feeding.take.Tie as tie
 
 abbrev Inv-loop : tie.InvT-loop
-Inv-loop head₀ block₀ question₀ ring piece state₀ taken₀ head block question state taken =
-    (taken ≤ length piece) × (length head ≡ length head₀) × (length block ≡ length block₀) × (length question ≡ length question₀) × (runOf (pushByte (ringOf ring)) (configuration state₀ head₀ block₀ question₀) 0 piece ≡ runOf (pushByte (ringOf ring)) (configuration state head block question) taken (drop taken piece))
+Inv-loop head₀ block₀ question₀ ring uri piece state₀ taken₀ head block question state taken =
+    (taken ≤ length piece) × (length head ≡ length head₀) × (length block ≡ length block₀) × (length question ≡ length question₀) × (runOf (pushByte (termsOf ring uri)) (configuration state₀ head₀ block₀ question₀) 0 piece ≡ runOf (pushByte (termsOf ring uri)) (configuration state head block question) taken (drop taken piece))
 
 abbrev μ-loop : tie.MeasureT-loop
-μ-loop head₀ block₀ question₀ ring piece state₀ taken₀ head block question state taken = length piece - taken
+μ-loop head₀ block₀ question₀ ring uri piece state₀ taken₀ head block question state taken = length piece - taken
 
 -- ---- the run that is skipped
 
@@ -30,19 +30,22 @@ abbrev At-skip : Type 0
 At-skip = tie.After-skip Inv-loop μ-loop
 
 abbrev A : At-skip → tie.Start Inv-loop μ-loop
-A c = c .before .before .before .before .before .before .before .before .before
+A c = c .before .before .before .before .before .before .before .before .before .before
 
 abbrev piece : At-skip → List ℕ
 piece c = now (A c .args .piece)
 
+abbrev uri : At-skip → List ℕ
+uri c = now (A c .args .uri)
+
 within : (c : At-skip) → c .before .before .before .before .loop .taken + c .skip .result .taken ≤ length (piece c)
-within c = skip-within (ringOf (A c .args .ring)) (piece c) (c .before .before .before .before .loop .taken) (c .before .before .before .before .loop .state) (c .before .before .before .before .loop .block) (c .skip .result) _ (c .skip .ensures) (c .before .before .before .before .loop .inv .0)
+within c = skip-within (termsOf (A c .args .ring) (uri c)) (piece c) (c .before .before .before .before .loop .taken) (c .before .before .before .before .loop .state) (c .before .before .before .before .loop .block) (c .skip .result) _ (c .skip .ensures) (c .before .before .before .before .loop .inv .0)
 
 abbrev started : (c : At-skip) → Fed
-started c = runOf (pushByte (ringOf (A c .args .ring))) (configuration (A c .args .r) (now (A c .args .head)) (now (A c .args .block)) (now (A c .args .question))) 0 (piece c)
+started c = runOf (pushByte (termsOf (A c .args .ring) (uri c))) (configuration (A c .args .r) (now (A c .args .head)) (now (A c .args .block)) (now (A c .args .question))) 0 (piece c)
 
-skipped : (c : At-skip) → started c ≡ runOf (pushByte (ringOf (A c .args .ring))) (configuration (c .skip .result .reader) (c .before .before .before .before .loop .head) (c .skip .last .1 .0) (c .before .before .before .before .loop .question)) (c .before .before .before .before .loop .taken + c .skip .result .taken) (drop (c .before .before .before .before .loop .taken + c .skip .result .taken) (piece c))
-skipped c = c .before .before .before .before .loop .inv .4 ∙ skip-same (ringOf (A c .args .ring)) (piece c) (c .before .before .before .before .loop .taken) (c .before .before .before .before .loop .state) (c .before .before .before .before .loop .block) (c .skip .result) _ (c .skip .ensures) (c .before .before .before .before .loop .head) (c .before .before .before .before .loop .question)
+skipped : (c : At-skip) → started c ≡ runOf (pushByte (termsOf (A c .args .ring) (uri c))) (configuration (c .skip .result .reader) (c .before .before .before .before .loop .head) (c .skip .last .1 .0) (c .before .before .before .before .loop .question)) (c .before .before .before .before .loop .taken + c .skip .result .taken) (drop (c .before .before .before .before .loop .taken + c .skip .result .taken) (piece c))
+skipped c = c .before .before .before .before .loop .inv .4 ∙ skip-same (termsOf (A c .args .ring) (uri c)) (piece c) (c .before .before .before .before .loop .taken) (c .before .before .before .before .loop .state) (c .before .before .before .before .loop .block) (c .skip .result) _ (c .skip .ensures) (c .before .before .before .before .loop .head) (c .before .before .before .before .loop .question)
 
 -- ---- the byte after it
 
@@ -64,11 +67,11 @@ block-long c = c .push .kept .1 .1 .0 ∙ K c .skip .kept .1 .0 ∙ K c .before 
 question-long : (c : At-push) → length (c .push .last .1 .1 .1 .0) ≡ length (now (A (K c) .args .question))
 question-long c = c .push .kept .1 .1 .1 .0 ∙ K c .before .before .before .before .loop .inv .3
 
-pushed-on : (c : At-push) → goesOn (c .push .result .word) ≡ true → started (K c) ≡ runOf (pushByte (ringOf (A (K c) .args .ring))) (configuration (c .push .result .reader) (c .push .last .1 .0) (c .push .last .1 .1 .0) (c .push .last .1 .1 .1 .0)) (taken c + 1) (drop (taken c + 1) (piece (K c)))
-pushed-on c g = skipped (K c) ∙ run-on (ringOf (A (K c) .args .ring)) (piece (K c)) (taken c) _ (c .push .result) _ _ _ (c .before .before .before .before .before .if1 .left) (c .push .ensures) g
+pushed-on : (c : At-push) → goesOn (c .push .result .word) ≡ true → started (K c) ≡ runOf (pushByte (termsOf (A (K c) .args .ring) (uri (K c)))) (configuration (c .push .result .reader) (c .push .last .1 .0) (c .push .last .1 .1 .0) (c .push .last .1 .1 .1 .0)) (taken c + 1) (drop (taken c + 1) (piece (K c)))
+pushed-on c g = skipped (K c) ∙ run-on (termsOf (A (K c) .args .ring) (uri (K c))) (piece (K c)) (taken c) _ (c .push .result) _ _ _ (c .before .before .before .before .before .if1 .left) (c .push .ensures) g
 
 pushed-stop : (c : At-push) → goesOn (c .push .result .word) ≡ false → started (K c) ≡ event (c .push .result .word) (c .push .result .signature) (taken c + 1) (configuration (c .push .result .reader) (c .push .last .1 .0) (c .push .last .1 .1 .0) (c .push .last .1 .1 .1 .0))
-pushed-stop c g = skipped (K c) ∙ run-stop (ringOf (A (K c) .args .ring)) (piece (K c)) (taken c) _ (c .push .result) _ _ _ (c .before .before .before .before .before .if1 .left) (c .push .ensures) g
+pushed-stop c g = skipped (K c) ∙ run-stop (termsOf (A (K c) .args .ring) (uri (K c))) (piece (K c)) (taken c) _ (c .push .result) _ _ _ (c .before .before .before .before .before .if1 .left) (c .push .ensures) g
 
 loop-holds : tie.Need-loop-holds Inv-loop μ-loop
 loop-holds c = search needs

@@ -1,0 +1,3 @@
+pub mod TrustLaws
+pub mod AskLaws
+pub mod JudgeLaws
