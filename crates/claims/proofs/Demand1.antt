@@ -18,9 +18,9 @@ use Rattle.agreement.specs.Loans.{haveRoom}
 use Rattle.agreement.proofs.Lists.{misfit-unchanged}
 use Rattle.agreement.proofs.Misuse.{undue-unchanged, due-fine}
 use Rattle.agreement.proofs.Taking.{feed-takes}
-use Rattle.agreement.proofs.TermsUse.{terms-unread}
+use Rattle.agreement.proofs.TermsUse.{terms-unread, terms-unread-yet}
 use Rattle.agreement.proofs.Signatures.{unsigned-call}
-use Rattle.claims.specs.Demand1.{RefusalsChangeNothing, TakesSome, TermsNotRead, OnlyQuestionsSigned, LentRefusalsChangeNothing, SeventeenRefused, ShortBlock, ShortHead}
+use Rattle.claims.specs.Demand1.{RefusalsChangeNothing, TakesSome, TermsNotRead, TermsNotReadYet, OnlyQuestionsSigned, LentRefusalsChangeNothing, SeventeenRefused, ShortBlock, ShortHead}
 use Rattle.claims.proofs.LentCalls.{called-lent, loan-lent}
 
 pub demand-1 : (keys : KeyRing) (uri : List ℕ) (d : Configuration) (r : Request) → RefusalsChangeNothing keys uri d r
@@ -36,6 +36,9 @@ takes-some keys uri d x xs e f = feed-takes keys uri d x xs e f
 
 pub terms-not-read : (keys : KeyRing) (uri : List ℕ) (d : Configuration) → TermsNotRead keys uri d
 terms-not-read keys uri d keys′ uri′ piece e f g = terms-unread keys keys′ uri uri′ d piece e f g
+
+pub terms-not-read-yet : (keys : KeyRing) (uri : List ℕ) (d : Configuration) → TermsNotReadYet keys uri d
+terms-not-read-yet keys uri d keys′ uri′ piece e f = terms-unread-yet keys keys′ uri uri′ d piece e f
 
 pub only-questions-signed : (keys : KeyRing) (uri : List ℕ) (d : Configuration) → OnlyQuestionsSigned keys uri d
 only-questions-signed keys uri d r e = unsigned-call keys uri d r e

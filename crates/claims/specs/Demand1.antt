@@ -15,6 +15,7 @@ use Rattle.ring.specs.declared.KeyRing.{KeyRing}
 use Rattle.sections.specs.Calls.{Request, feed}
 use Rattle.stream.specs.Limits.{headLimit, blockLimit, ringLimit}
 use Rattle.state.specs.Configuration.{Configuration, noSignature}
+use Rattle.state.specs.declared.word.Word.the-variants as W
 use Rattle.calls.specs.Response.{Response, isReading, unchanged}
 use Rattle.reader.specs.Feed.{feedOf}
 use Rattle.agreement.specs.Due.{isDue, isInHead, isMisuse, isQuestion, Between}
@@ -41,11 +42,17 @@ module _ (keys : KeyRing) (uri : List ℕ) (d : Configuration) where
       (x : ℕ) (xs : List ℕ) → loanFits (d .head) (d .block) (d .question) keys (feed (x ∷ xs)) ≡ true → isReading (d .reader .phase) ≡ true
       → Between 1 (length (x ∷ xs)) (feedOf keys uri d (x ∷ xs) .taken)
 
-  -- The ring and the URI are read only when the head is judged: after it, any ring that will do, with any URI, gives the same feed.
+  -- The ring and the URI are read only when the head is judged. After it, any ring that will do, with any URI, gives the same feed.
   abbrev pub TermsNotRead : Type 0
   TermsNotRead =
       (keys′ : KeyRing) (uri′ piece : List ℕ) → isInHead (d .reader .phase) ≡ false
       → leb (keys .count) ringLimit ≡ true → leb (keys′ .count) ringLimit ≡ true → feedOf keys uri d piece ≡ feedOf keys′ uri′ d piece
+
+  -- And before it is whole: a feed that brings no event is the same with any other ring that will do and any other URI.
+  abbrev pub TermsNotReadYet : Type 0
+  TermsNotReadYet =
+      (keys′ : KeyRing) (uri′ piece : List ℕ) → feedOf keys uri d piece .word ≡ W.More
+      → leb (keys′ .count) ringLimit ≡ true → feedOf keys uri d piece ≡ feedOf keys′ uri′ d piece
 
   -- A signature comes with a question alone: with any other word go 64 zeros.
   abbrev pub OnlyQuestionsSigned : Type 0

@@ -1,4 +1,4 @@
--- KEPT FROM BEFORE: what a request leaves as it was, said of any list of calls. Assumes nothing.
+-- KEPT FROM BEFORE: what a request leaves as it was, and what it puts in the place of the rest, said of any list of calls. Assumes nothing.
 use mathlib.Core.List.{List}
 use mathlib.Core.Path.{_≡_}
 use Prim.Native.Nat.{ℕ}
@@ -16,11 +16,12 @@ use Rattle.kept.specs.Unasked.{unaskedReading}
 use Rattle.claims.specs.Runs.{words, taken, answers, ended}
 
 module _ (keys : KeyRing) (uri h b q : List ℕ) (ks : List Invocation) where
-  -- of the bytes that were taken, by the rules before request #102: every doubled name was refused with 3
+  -- of the bytes that were taken, by paper 01's rule before request #102, that every doubled name is refused with 3, and all others as they
+  -- are now
   abbrev pub readBefore : Log Question Release LastWord
   readBefore = olderReading (termsOf keys uri) (taken keys uri h b q ks) (answers keys uri h b q ks) (ended keys uri h b q ks)
 
-  -- and by the rules before request #105: whatever show came was read, so that they ask for no URI
+  -- and by the rules as they are now but for request #105's: whatever show comes is read, so that no URI is asked for
   abbrev pub readUnasked : Log Question Release LastWord
   readUnasked = unaskedReading (ringOf keys) (taken keys uri h b q ks) (answers keys uri h b q ks) (ended keys uri h b q ks)
 

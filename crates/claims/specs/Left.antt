@@ -1,6 +1,7 @@
--- What the three lent buffers hold after any list of calls. `leftAfter keys uri h b q ks` is what the calls ks leave in buffers that first held h, b
--- and q, from a fresh reader with the key ring `keys` and the asked URI `uri` (crate buffers, Left); `buffersAfter` is what the bytes taken, the answers heard and the
--- end told leave there by paper 01 alone (crate stream, Buffers), which knows no reader, no call and no cutting. Assumes nothing.
+-- What the three lent buffers hold after any list of calls. `leftAfter keys uri h b q ks` is what the calls ks leave in buffers that first held
+-- h, b and q, from a fresh reader with the key ring `keys` and the asked URI `uri` (crate buffers, Left); `buffersAfter` is what the bytes
+-- taken, the answers heard and the end told leave there by paper 01 alone (crate stream, Buffers), which knows no reader, no call and no
+-- cutting. Assumes nothing.
 use mathlib.Core.Path.{_≡_}
 use mathlib.Core.List.{List, []}
 use Prim.Native.Nat.{ℕ}

@@ -16,7 +16,7 @@ use Rattle.exactness.specs.Good.{GoodHead}
 use Rattle.exactness.specs.MessageLines.{LineIn}
 use Rattle.exactness.specs.Telling.{StreamEvent, headAsks, Stands}
 
--- the URI that a stream's head gives: "The trimmed value"
+-- The URI that a stream's head gives, trimmed as every value is; of a head that is not whole yet, by the lines that have come.
 abbrev pub uriOf : List ℕ → List ℕ
 uriOf S = headUri (headOf (headBytes S))
 

@@ -27,7 +27,7 @@ fn number_of(answer: HeadAnswer) -> u8
 }
 
 // The number that refuses the head. Or 0, and the signing string from the front of the buffer. One key is trusted, from the first to
-// the last second.
+// the last second, and this URI is asked for.
 #[no_mangle]
 pub extern "C" fn thawrushes_judge_head(
     text: &[u8],

@@ -1,4 +1,4 @@
--- What a request leaves as it was. Assumes nothing.
+-- What a request leaves as it was, and what it puts in the place of the rest. Assumes nothing.
 use mathlib.Core.Bool.{Bool, true, false}
 use mathlib.Core.List.{List, [], _∷_}
 use mathlib.Core.Path.{_≡_}

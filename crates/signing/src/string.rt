@@ -22,6 +22,8 @@ fn put_fields(text: &[u8], f: Fields, list: &[u8], n: Names, out: &mut [u8], fro
     at
 }
 
+// The whole string, from the front of a buffer that has room for it: the names are those of the list in the text, the first two values
+// the digits of the status and of `created`. The end of what was written.
 pub fn put_string(
     text: &[u8],
     f: Fields,
