@@ -1,5 +1,5 @@
 -- Document 000's example, with size 5 and the body `Hello world!`, is an honest show: so it comes out whole. Assumes nothing.
-use mathlib.Core.Bool.{Bool, true}
+use mathlib.Core.Bool.{Bool, true, false}
 use mathlib.Core.List.{List, [], _∷_, _++_, append-nil}
 use mathlib.Core.Path.{_≡_, refl, sym, ap, _∙_}
 use Prim.Native.Nat.{ℕ, _≤_}
@@ -20,8 +20,11 @@ use Rattle.stream.specs.Rule.{firstBroken}
 use Rattle.stream.specs.Signatures.{injectionScan, isInjection, bsigsScan, isBsigs, sig0Scan, isSig0, splitNames, areFields, isNameList}
 use Rattle.stream.specs.Stream.{plainReading}
 use Rattle.stream.specs.Template.{run, past, startsWith, scan}
+use Rattle.stream.specs.Terms.{Terms}
 use Rattle.stream.specs.Trailer.{endsTrailer, isWholeTrailer, isTrailer}
+use Rattle.stream.proofs.Cases.{events, eventsFrom}
 use Rattle.stream.proofs.Example.{terms, exampleHead, exampleBody}
+use Rattle.stream.proofs.GivenHeads.{given-head}
 use Rattle.exactness.specs.Good.{GoodHead, GoodTrailer}
 use Rattle.exactness.specs.ShowEvents.{showEvents}
 use Rattle.exactness.specs.Shows.{Chunk, WholeShow, bodyOf, chunksWritten, streamOf, Writes, HonestChunk, HonestChunks, Sized, Honest}
@@ -110,6 +113,11 @@ body-after head honest = show-released terms (showAfter head) honest
 head-cut : cut isWholeHead exampleHead ≡ cutAt exampleHead []
 unfolding cut isWholeHead endsHead endsWith same
 head-cut = refl
+
+-- so what a table says of it, given apart from what follows, is said of the plain reading
+pub example-given : (t : Terms) (rest : List ℕ) (answers : List Bool)
+    → eventsFrom t exampleHead rest answers ≡ events (plainReading t (exampleHead ++ rest) answers false)
+example-given t rest answers = given-head t exampleHead rest answers head-cut
 
 head-faultless : headFault terms exampleHead ≡ 0
 unfolding isBase64 letterValue holdsThree holdsTwo holdsOne joinedLetters base64Bytes all same lowered sameName among isDoubled isProtected isProtectedDoubled namesOf hasField valueOf endsHead headWith headOf statusDigits injectionTime blockSize blockKey headKey listedNames trustedBy textRules callerRules headFault endsWith lines beforeEmpty textLines trimmed fieldScan isFieldLine fieldOf areFieldLines fieldsOf statusScan isStatusLine statusOf numberFrom isDecimal fits firstFrom found firstBroken injectionScan isInjection bsigsScan isBsigs sig0Scan isSig0 splitNames areFields isNameList run past startsWith scan

@@ -1,7 +1,8 @@
 -- The example with signed fields that are there twice (request #102) is an honest show: so it comes out whole. Assumes nothing.
-use mathlib.Core.Bool.{Bool, true}
-use mathlib.Core.List.{[], _++_}
+use mathlib.Core.Bool.{Bool, true, false}
+use mathlib.Core.List.{List, [], _++_}
 use mathlib.Core.Path.{_≡_, refl}
+use Prim.Native.Nat.{ℕ}
 use lib.ListN.{replicate}
 use Rattle.octets.specs.Octets.{octets}
 use Rattle.base64.specs.Base64.{isBase64, letterValue, holdsThree, holdsTwo, holdsOne, joinedLetters, base64Bytes}
@@ -16,7 +17,10 @@ use Rattle.stream.specs.Rule.{firstBroken}
 use Rattle.stream.specs.Signatures.{injectionScan, isInjection, bsigsScan, isBsigs, sig0Scan, isSig0, splitNames, areFields, isNameList}
 use Rattle.stream.specs.Stream.{plainReading}
 use Rattle.stream.specs.Template.{run, past, startsWith, scan}
+use Rattle.stream.specs.Terms.{Terms}
+use Rattle.stream.proofs.Cases.{events, eventsFrom}
 use Rattle.stream.proofs.Example.{terms, exampleBody}
+use Rattle.stream.proofs.GivenHeads.{given-head}
 use Rattle.stream.proofs.RepeatCases.{withFields, signing, repeatedHead}
 use Rattle.exactness.specs.ShowEvents.{showEvents}
 use Rattle.exactness.specs.Shows.{Honest}
@@ -26,6 +30,10 @@ use Rattle.exactness.proofs.Example.{computed-head, showAfter, honest-a
 head-cut : cut isWholeHead repeatedHead ≡ cutAt repeatedHead []
 unfolding cut isWholeHead endsHead endsWith same withFields signing repeatedHead startsWith
 head-cut = refl
+
+pub repeated-given : (t : Terms) (rest : List ℕ) (answers : List Bool)
+    → eventsFrom t repeatedHead rest answers ≡ events (plainReading t (repeatedHead ++ rest) answers false)
+repeated-given t rest answers = given-head t repeatedHead rest answers head-cut
 
 head-faultless : headFault terms repeatedHead ≡ 0
 unfolding isBase64 letterValue holdsThree holdsTwo holdsOne joinedLetters base64Bytes all same lowered sameName among isDoubled isProtected isProtectedDoubled namesOf hasField valueOf endsHead headWith headOf statusDigits injectionTime blockSize blockKey headKey listedNames trustedBy textRules callerRules headFault endsWith lines beforeEmpty textLines trimmed fieldScan isFieldLine fieldOf areFieldLines fieldsOf statusScan isStatusLine statusOf numberFrom isDecimal fits firstFrom found firstBroken injectionScan isInjection bsigsScan isBsigs sig0Scan isSig0 splitNames areFields isNameList run past startsWith scan withFields signing repeatedHead

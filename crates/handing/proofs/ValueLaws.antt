@@ -1,6 +1,6 @@
 -- Which fields of a text are handed out, and which text lies in the room for a head. Assumes nothing.
 use mathlib.Core.Bool.{Bool, true, false, _&&_}
-use mathlib.Core.List.{List, [], _∷_, _++_}
+use mathlib.Core.List.{List, []}
 use mathlib.Core.Path.{_≡_, refl, sym, ap, _∙_}
 use Prim.Native.Nat.{ℕ, _-_, _≤_, _<_}
 use native.Mathlib.Nat.{sub-zero}
@@ -13,9 +13,10 @@ use Rattle.stream.specs.Fields.{among, valueOf, valuesOf, countOf}
 use Rattle.stream.specs.Head.{endsHead, headOf, textRules, callerRules, headFault, signedOf}
 use Rattle.stream.specs.Limits.{headLimit}
 use Rattle.stream.specs.Lines.{Field, endsWith}
-use Rattle.stream.specs.Rule.{Rule, firstBroken}
+use Rattle.stream.specs.Rule.{firstBroken}
 use Rattle.stream.specs.Template.{nth}
 use Rattle.stream.specs.Terms.{Terms}
+use Rattle.stream.proofs.RulesHold.{front-kept}
 use Rattle.stream.proofs.SignedLaws.{first-value, signed-of}
 use Rattle.text.proofs.SameLaws.{both-false}
 use Rattle.places.specs.Place.{partOf}
@@ -95,15 +96,6 @@ handed-none room = ap fieldsOut (neither (leb headLimit (length room) && leb 0 (
     neither : (t : Bool) → _≡_ {A = List ℕ} (pick t [] []) []
     neither true = refl
     neither false = refl
-
-front-kept : (rs ss : List Rule) → firstBroken (rs ++ ss) ≡ 0 → firstBroken rs ≡ 0
-unfolding firstBroken
-front-kept [] ss h = refl
-front-kept (r ∷ rs) ss h = by (r .holds) h (front-kept rs ss)
-  where
-    by : (t : Bool) → pick t (firstBroken (rs ++ ss)) (r .number) ≡ 0 → (firstBroken (rs ++ ss) ≡ 0 → firstBroken rs ≡ 0) → pick t (firstBroken rs) (r .number) ≡ 0
-    by true k ih = ih k
-    by false k ih = k
 
 -- a head was accepted: its first n bytes have no fault
 pub handed-signed : (terms : Terms) (room : List ℕ) (n : ℕ) → headLimit ≤ length room → n ≤ length room → headFault terms (take n room) ≡ 0

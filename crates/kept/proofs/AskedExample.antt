@@ -34,6 +34,6 @@ same-test : (uri : List ℕ) → uri ≡ terms .uri → true ≡ same uri (terms
 same-test uri e = sym (same-self (terms .uri)) ∙ ap (λ (u : List ℕ). same u (terms .uri)) (sym e)
 
 -- and a beginning of its URI, and its URI in another case, are others
-pub others : (octets "https://example.com/hell" ≡ terms .uri → ⊥) × (octets "https://example.com/Hello" ≡ terms .uri → ⊥)
+pub other-uris : (octets "https://example.com/hell" ≡ terms .uri → ⊥) × (octets "https://example.com/Hello" ≡ terms .uri → ⊥)
 unfolding same
-others = (λ e. true≢false (same-test (octets "https://example.com/hell") e), λ e. true≢false (same-test (octets "https://example.com/Hello") e))
+other-uris = (λ e. true≢false (same-test (octets "https://example.com/hell") e), λ e. true≢false (same-test (octets "https://example.com/Hello") e))

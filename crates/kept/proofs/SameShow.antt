@@ -1,27 +1,19 @@
 -- THE SHOW THAT WAS ASKED FOR is read as before request #105. Assumes nothing.
-use mathlib.Core.Bool.{true}
-use mathlib.Core.List.{List, [], _∷_, _++_}
-use mathlib.Core.Path.{_≡_, refl, ap}
+use mathlib.Core.List.{List}
+use mathlib.Core.Path.{_≡_}
 use Prim.Native.Nat.{ℕ}
-use Rattle.octets.specs.Choice.{pick}
 use Rattle.stream.specs.Head.{headOf, headUri, textRules, callerRules, headFault, trustRules}
-use Rattle.stream.specs.Rule.{Rule, rule, firstBroken}
 use Rattle.stream.specs.Stream.{judgeHead}
 use Rattle.stream.specs.Terms.{Terms}
+use Rattle.stream.proofs.RulesHold.{without-held}
 use Rattle.stream.proofs.Truth.{same-self}
 use Rattle.kept.specs.Kept.{SameWhereAsked}
 use Rattle.kept.specs.Unasked.{unaskedFault, unaskedHead, unaskedReading}
 use Rattle.kept.proofs.Later.{reading-same}
 
--- a rule that holds can be left out
-without : (rs qs : List Rule) (n : ℕ) → firstBroken (rs ++ rule n true ∷ qs) ≡ firstBroken (rs ++ qs)
-unfolding firstBroken
-without [] qs n = refl
-without (r ∷ rs) qs n = ap (λ (m : ℕ). pick (r .holds) m (r .number)) (without rs qs n)
-
 same-fault : (terms : Terms) (l : List ℕ) → headUri (headOf l) ≡ terms .uri → headFault terms l ≡ unaskedFault (terms .ring) l
 unfolding headFault callerRules unaskedFault
-same-fault terms l e = rw (e, same-self (terms .uri)) (without (textRules l (headOf l)) (trustRules (terms .ring) (headOf l)) 16)
+same-fault terms l e = rw (e, same-self (terms .uri)) (without-held (textRules l (headOf l)) (trustRules (terms .ring) (headOf l)) 16)
 
 same-head : (terms : Terms) (l : List ℕ) → headUri (headOf l) ≡ terms .uri → judgeHead terms l ≡ unaskedHead (terms .ring) l
 unfolding judgeHead unaskedHead

@@ -66,7 +66,8 @@ unfoldable pub events : Log Question Release LastWord → List ℕ
 events [] = []
 events (x ∷ log) = told (x .1) ++ events log
 
--- The events of a stream that is given as its head and what comes after it. To find where a head ends, as P11 does, takes a second.
+-- The events of a stream that is given as its head and what comes after it: those of the plain reading, by GivenHeads. To find where a head ends,
+-- as P11 does, takes a second.
 unfoldable pub eventsFrom : Terms → List ℕ → List ℕ → List Bool → List ℕ
 eventsFrom terms first rest answers =
     events

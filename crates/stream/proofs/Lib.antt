@@ -1,5 +1,6 @@
 pub mod Example
 pub mod Cases
+pub mod GivenHeads
 pub mod PlaceCases
 pub mod RepeatCases
 pub mod AskedCases

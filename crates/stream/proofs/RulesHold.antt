@@ -9,7 +9,7 @@ use native.Mathlib.Omega.{arith}
 use lib.Dec.{leb}
 use Rattle.octets.specs.Choice.{pick}
 use Rattle.stream.specs.Head.{headOf, textRules, callerRules, headFault}
-use Rattle.stream.specs.Rule.{Rule, firstBroken}
+use Rattle.stream.specs.Rule.{Rule, rule, firstBroken}
 use Rattle.stream.specs.Terms.{Terms}
 use Rattle.stream.proofs.Truth.{left-holds, right-holds}
 
@@ -58,6 +58,22 @@ pub kept-first : (rs ss : List Rule) → AllHold rs → firstBroken (rs ++ ss) �
 unfolding firstBroken
 kept-first [] ss h = refl
 kept-first (r ∷ rs) ss h = rw (h .0) (kept-first rs ss (h .1))
+
+-- where none of all is broken, none of those before is
+pub front-kept : (rs ss : List Rule) → firstBroken (rs ++ ss) ≡ 0 → firstBroken rs ≡ 0
+unfolding firstBroken
+front-kept [] ss h = refl
+front-kept (r ∷ rs) ss h = by (r .holds) h (front-kept rs ss)
+  where
+    by : (t : Bool) → pick t (firstBroken (rs ++ ss)) (r .number) ≡ 0 → (firstBroken (rs ++ ss) ≡ 0 → firstBroken rs ≡ 0) → pick t (firstBroken rs) (r .number) ≡ 0
+    by true k ih = ih k
+    by false k ih = k
+
+-- a rule that holds can be left out
+pub without-held : (rs ss : List Rule) (n : ℕ) → firstBroken (rs ++ rule n true ∷ ss) ≡ firstBroken (rs ++ ss)
+unfolding firstBroken
+without-held [] ss n = refl
+without-held (r ∷ rs) ss n = ap (λ (m : ℕ). pick (r .holds) m (r .number)) (without-held rs ss n)
 
 -- a head without fault keeps every rule of a head
 pub head-rules-hold : (terms : Terms) (l : List ℕ) → headFault terms l ≡ 0 → AllHold (textRules l (headOf l) ++ callerRules terms (headOf l))
