@@ -1,3 +1,4 @@
+/* Makes the buffers that the fuzz target lends, each up against a page that nobody may touch. */
 #include "lent.h"
 
 #include <stdio.h>

@@ -1,3 +1,4 @@
+/* Makes the URI that the fuzz target asks for out of the one in the stream's head: the same, a neighbour of it, or nothing. */
 #include "uri.h"
 
 #include <string.h>

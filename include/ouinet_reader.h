@@ -76,12 +76,12 @@ extern "C" {
 /* ---- the URI asked for
  *
  * A signature says who signed a show, not that it is the one that was wanted. So feed is lent the URI that was asked for: any bytes, of any
- * length, none included; it is never a cause for OUINET_READER_NO_ROOM. It is read only when the head is judged, that is, by the call that
- * takes the head's last byte; what other calls are lent is not looked at. The value of the head's X-Ouinet-URI, without the spaces and tabs at
- * its ends, is compared with it byte by byte: no case is folded, and nothing is trimmed from the URI that is lent, so a line feed left at
- * its end makes it another one. Where they differ, the head is refused with OUINET_READER_OTHER_URI and nothing is asked. That is tested after
- * all of OUINET_READER_BAD_HEAD, OUINET_READER_HEAD_RULE and OUINET_READER_BAD_VERSION, and before OUINET_READER_UNTRUSTED. A head without a URI,
- * or with an empty one, is refused with OUINET_READER_HEAD_RULE, so with an empty URI lent no head is accepted.
+ * length, none included (the address is not NULL then either); it is never a cause for OUINET_READER_NO_ROOM. It is read only when the head is
+ * judged, that is, by the call that takes the head's last byte; what other calls are lent is not looked at. The value of the head's X-Ouinet-URI,
+ * without the spaces and tabs at its ends, is compared with it byte by byte: no case is folded, and nothing is trimmed from the URI that is lent,
+ * so a line feed left at its end makes it another one. Where they differ, the head is refused with OUINET_READER_OTHER_URI and nothing is asked.
+ * That is tested after all of OUINET_READER_BAD_HEAD, OUINET_READER_HEAD_RULE and OUINET_READER_BAD_VERSION, and before OUINET_READER_UNTRUSTED.
+ * A head without a URI, or with an empty one, is refused with OUINET_READER_HEAD_RULE, so with an empty URI lent no head is accepted.
  *
  * To tell the user which show came: after OUINET_READER_OTHER_URI the whole head stands at the front of the head buffer. It ends with the
  * first CR LF CR LF there, its text is good, and just one of its lines begins with the name X-Ouinet-URI, in any case, and a colon. Nobody has

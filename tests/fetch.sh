@@ -20,9 +20,13 @@ expect() {
     check "$@" || sed 's/^/  said: /' said 2>/dev/null | tail -3
 }
 
-# fetch WORDS..: oui-fetch with the ring and the file `got`, for the show of the URI in `asked`; sets `status`, and leaves its last words in
-# `said`.
+# sign WORDS..: oui-sign sign, of the show of the URI in `asked`.
 asked=https://example.com/show
+sign() {
+    oui-sign sign "$@" --uri "$asked"
+}
+
+# fetch WORDS..: oui-fetch with the ring and the file `got`, for that show; sets `status`, and leaves its last words in `said`.
 fetch() {
     rm -f got
     timeout 20 oui-fetch --ring ring --uri "$asked" -o got "$@" 2>said
@@ -68,7 +72,7 @@ expect 'a key that is there is not made anew' test $? -eq 2 -a ! -s again
 expect 'it has the same line' test "$(oui-sign ring key)" = "$(cat ring)"
 
 for wrong in '--block-size 0' '--block-size 65537' '--id a.b' '--ts 1000000000000' '--more 1'; do
-    oui-sign sign key ring ${wrong% *} "${wrong##* }" -o none 2>said
+    sign key ring ${wrong% *} "${wrong##* }" -o none 2>said
     expect "oui-sign $wrong" test $? -eq 2 -a ! -e none
 done
 
@@ -78,6 +82,10 @@ no_uri() {
     [ $? -eq 2 ] && [ ! -e none ] && [ "$(cat said)" = "oui-sign: $2" ]
 }
 
+oui-sign sign key ring -o none 2>said
+expect 'no URI' test $? -eq 2 -a ! -e none -a "$(cat said)" = 'oui-sign: which show is it? --uri URI; see oui-sign --help'
+sign key ring --uri "$asked" -o none 2>said
+expect 'two URIs to sign' test $? -eq 2 -a ! -e none -a "$(head -n 1 said)" = 'oui-sign: --uri is given twice'
 expect 'an empty URI' no_uri '' '--uri must not be empty: no reader takes a head without a URI'
 for blank in ' ' $'\t' ' show' 'show ' $'show\t' ' show '; do
     expect "blanks around a URI: '$blank'" no_uri "$blank" "--uri: a field's value has no blanks at its ends"
@@ -87,9 +95,9 @@ expect 'a line feed at the end of a URI' no_uri $'show\n' "--uri: \\n at offset 
 expect 'a control character in a URI' no_uri $'a\x1bb' "--uri: \\x1b at offset 1 may not stand in a field's value"
 expect 'a deletion in a URI' no_uri $'\x7f' "--uri: \\x7f at offset 0 may not stand in a field's value"
 expect 'a URI that is too long' no_uri "$(printf '%08000d' 0)" "the head has 8634 bytes, and 8192 are the most"
-oui-sign sign key ring --type 'text/plain ' -o none 2>said
+sign key ring --type 'text/plain ' -o none 2>said
 expect 'a blank at the end of a value' test $? -eq 2 -a ! -e none -a "$(cat said)" = "oui-sign: --type: a field's value has no blanks at its ends"
-oui-sign sign key ring --header $'Via: \xe9' -o none 2>said
+sign key ring --header $'Via: \xe9' -o none 2>said
 expect 'a word that is no UTF-8' test $? -eq 2 -a ! -e none -a "$(grep -c 'no UTF-8' said)" = 1
 
 # not_signed WORDS HEADER..: whether these further fields are refused with just these words, and nothing is written.
@@ -97,7 +105,7 @@ not_signed() {
     local words=$1 given=() header
     shift
     for header in "$@"; do given+=(--header "$header"); done
-    oui-sign sign key ring "${given[@]}" -o none 2>said
+    sign key ring "${given[@]}" -o none 2>said
     [ $? -eq 2 ] && [ ! -e none ] && [ "$(cat said)" = "oui-sign: $words" ]
 }
 
@@ -120,7 +128,7 @@ seed=0
 for lengths in 0:5 1:1 5:5 12:5 1000:1 65536:65536 65537:65536 200000:1000 1048577:65536; do
     seed=$((seed + 1))
     head -c "${lengths%:*}" /dev/urandom >show
-    oui-sign sign key show --block-size "${lengths#*:}" >stream
+    sign key show --block-size "${lengths#*:}" >stream
     oui-relay --seed $seed --most $((seed * seed * 20)) <stream | fetch
     expect "${lengths%:*} bytes in blocks of ${lengths#*:}" ended 0 "closed: ${lengths%:*} bytes"
     expect "the same ${lengths%:*} bytes" cmp -s show got
@@ -128,7 +136,7 @@ done
 
 # Fields that are repeated
 head -c 3000 /dev/urandom >show
-oui-sign sign key show -o good --block-size 1000 --header 'Vary: Accept' --header 'Via: 1.1 first' --header vary: \
+sign key show -o good --block-size 1000 --header 'Vary: Accept' --header 'Via: 1.1 first' --header vary: \
     --header 'Via: 1.1 second' --header 'VARY:  Cookie, Origin '
 expect 'repeated fields are signed' test $? -eq 0
 expect 'each name is listed once' grep -aq ' x-ouinet-bsigs vary via",signature=' good
@@ -141,7 +149,7 @@ done
 
 given=()
 for field in "${fields[@]:0:57}"; do given+=(--header "$field"); done
-oui-sign sign key show --block-size 1000 "${given[@]}" | oui-relay --most 50 | fetch
+sign key show --block-size 1000 "${given[@]}" | oui-relay --most 50 | fetch
 expect 'as many lines of a name as can be' ended 0 'closed: 3000 bytes in 3 blocks'
 
 # reached STATUS WORDS SED..: how a fetch ends of the stream with an edit of its head.
@@ -168,7 +176,7 @@ expect 'values joined without a space' reached 1 "$wrong" '/^Via: 1.1 second/d;s
 # By other ways
 head -c 300000 /dev/urandom >show
 asked='https://example.com/a "show"'
-oui-sign sign key - -o stream --uri "$asked" --id me-1 --ts 1700000000 --type video/webm <show
+sign key - -o stream --id me-1 --ts 1700000000 --type video/webm <show
 expect 'the signer reads standard input' test $? -eq 0
 fetch stream
 expect 'a stream in a file' ended 0 'closed: 300000 bytes in 5 blocks'
@@ -224,7 +232,7 @@ expect 'nothing of its bytes comes out' test ! -s got
 # Where a text went wrong
 asked=https://example.com/show
 printf 'Hello world!' >show
-oui-sign sign key show -o good --block-size 5 --id me-1 --ts 1700000000
+sign key show -o good --block-size 5 --id me-1 --ts 1700000000
 uri='X-Ouinet-URI: https://example.com/show'
 
 # spoil SED..: the stream with an edit, then a fetch of it in small pieces.
@@ -335,6 +343,7 @@ for sky in south north; do
     for most in 1 30 6000; do
         oui-relay --seed "$most" --most "$most" <$sky.oui | fetch
         expect "the $sky, asked for, in pieces of $most at most" ended 0 'closed: 5000 bytes in 5 blocks, each verified'
+        expect "no more is said of the $sky" test "$(cat said)" = 'oui-fetch: closed: 5000 bytes in 5 blocks, each verified'
         expect "the same $sky in pieces of $most at most" cmp -s $sky got
     done
 done
@@ -372,7 +381,9 @@ expect 'in capital letters' almost https://example.com/sky/SOUTH https://example
 expect 'a beginning' almost https://example.com/sky/sout https://example.com/sky/sout
 expect 'a byte more' almost https://example.com/sky/south/ https://example.com/sky/south/
 expect 'a blank more' almost 'https://example.com/sky/south ' 'https://example.com/sky/south '
-expect 'a line feed more' almost $'https://example.com/sky/south\n' 'https://example.com/sky/south\n'
+expect 'a line feed more' almost $'https://example.com/sky/south\n' 'https://example.com/sky/south\x0a'
+expect 'a tab more' almost $'https://example.com/sky/south\t' 'https://example.com/sky/south\x09'
+expect 'what looks like the end of a quotation' almost 'south`, got `north' 'south\x60, got \x60north'
 expect 'bytes that are no text' almost $'\x1b[2J\xff\\' '\x1b[2J\xff\\'
 long=$(printf '%0300d' 0)
 oui-sign sign key south -o long.oui --uri "https://example.com/$long/south/"
@@ -381,15 +392,16 @@ fetch long.oui
 expect 'long ones that differ late' told \
     "refused 16: this is another show: asked for \`...${long:0:39}/north\`, got \`...${long:0:39}/south/\`; nothing was verified"
 asked=https://example.com/s$'\xc3\xbc'd
-oui-sign sign key south --uri "$asked" --block-size 1000 | fetch
+sign key south --block-size 1000 | fetch
 expect 'one with bytes beyond ASCII' ended 0 'closed: 5000 bytes in 5 blocks'
 asked=https://example.com/su$'\xcc\x88'd
-oui-sign sign key south --uri https://example.com/s$'\xc3\xbc'd | fetch
+oui-sign sign key south --uri https://example.com/s$'\xc3\xbc'd | fetch --json >events
 expect 'the same written otherwise' told \
     'refused 16: this is another show: asked for `https://example.com/su\xcc\x88d`, got `https://example.com/s\xc3\xbcd`; nothing was verified'
+expect 'bytes as JSON' grep -qF '"asked":"https://example.com/su\u00cc\u0088d","got":"https://example.com/s\u00c3\u00bcd"}' events
 
 # By the user's choice, any
-taken='any URI was taken (--any-uri), and the head gives'
+taken='any URI would do (--any-uri), and the head gives'
 for sky in south north; do
     for most in 1 30 6000; do
         oui-relay --seed "$most" --most "$most" <$sky.oui | fetch_any
@@ -412,7 +424,7 @@ any_of() {
     [ "$status" -eq "$status_due" ] && [[ $(head -n 1 said) == oui-fetch:\ $words ]]
 }
 good='closed: 5000 bytes in 5 blocks, each verified'
-none='nothing was verified; any URI was taken (--any-uri)'
+none='nothing was verified; any URI would do (--any-uri)'
 expect 'its name and blanks otherwise' any_of 0 "$good; $taken \`$south\`" 's/^X-Ouinet-URI: /x-oUINET-uri:\t /;s/south\r/south \t\r/'
 expect 'its line last' any_of 0 "$good; $taken \`$south\`" '/^X-Ouinet-URI/{h;d};/^Transfer-Encoding/G'
 expect 'another name like it first' any_of 0 "$good; $taken \`$south\`" '2s/^/X-Ouinet-URI2: u\r\n/'
@@ -443,9 +455,26 @@ asked=$north
 fetch strange.oui
 expect 'a stranger with another show' ended 1 'refused 16: this is another show'
 
+# As long a head as can be, by the length of its URI, and one that a blank makes too long
+pad=$((8192 - $(LC_ALL=C sed '/^\r/q' south.oui | wc -c)))
+asked=$south$(printf "%0${pad}d" 0)
+sign key south -o full.oui --block-size 1000 --id south --ts 1700000000
+expect 'a head of 8,192 bytes' test "$(LC_ALL=C sed '/^\r/q' full.oui | wc -c)" -eq 8192
+oui-relay --most 1 <full.oui | fetch_any
+expect 'it is read, if any' test "$status" -eq 0 -a "$(cat said)" = "oui-fetch: $good; $taken \`${asked:0:100}...\`"
+expect 'its show, if any' cmp -s south got
+LC_ALL=C sed 's/^Transfer-Encoding:/& /' full.oui >stream
+expect 'a head of 8,193 bytes' test "$(LC_ALL=C sed '/^\r/q' stream | wc -c)" -eq 8193
+oui-relay --most 1 <stream | fetch_any
+expect 'it is not read, if any' test "$status" -eq 1 -a ! -s got -a "$(head -n 1 said)" = \
+    "oui-fetch: refused 3: the head has no end within 8,192 bytes; $none"
+asked='a`b\c'
+sign key south --block-size 1000 | fetch_any
+expect 'an odd URI, if any' ended 0 "$good; $taken \`a\\x60b\\\\c\`"
+
 # Signed by someone else, or at another time
 asked=https://example.com/show
-oui-sign sign key show -o stream --ts 1700000000
+sign key show -o stream --ts 1700000000
 oui-sign key other >ring
 fetch stream
 expect 'another key' ended 1 'refused 12: the key is not trusted'

@@ -276,14 +276,19 @@ static const char *lines_of(const char *line, int times) {
     return lines;
 }
 
-/* Feeds a head in pieces, up to its question. */
-static int is_asked(const char *text, size_t length, size_t piece) {
+/* Feeds a head in pieces, up to what is decided about it. How many bytes were taken. */
+static size_t feed_head(const char *text, size_t length, size_t piece) {
     size_t at = 0;
     uint8_t word = OUINET_READER_MORE;
     ouinet_reader_fresh(state, STATE);
     for (; at < length && word == OUINET_READER_MORE; at += (size_t)number(result + OUINET_READER_RESULT_TAKEN))
         word = feed((const uint8_t *)text + at, length - at < piece ? length - at : piece);
-    return word == OUINET_READER_QUESTION && at == length;
+    return at;
+}
+
+/* Feeds a head in pieces: whether its last byte brings the question. */
+static int is_asked(const char *text, size_t length, size_t piece) {
+    return feed_head(text, length, piece) == length && number(result + OUINET_READER_RESULT_WORD) == OUINET_READER_QUESTION;
 }
 
 /* Whether the message of the open question ends so. */
@@ -346,11 +351,13 @@ static void count_forged_lines(const char *stream) {
 /* A whole head in pieces, asked for by this URI: the refusal's number, or 0 where it is asked about. */
 static unsigned refused_head(const char *text, size_t length, const char *asked, size_t piece) {
     char what[160];
+    size_t taken;
     ask_for(asked, strlen(asked));
-    if (is_asked(text, length, piece))
+    taken = feed_head(text, length, piece);
+    if (taken == length && number(result + OUINET_READER_RESULT_WORD) == OUINET_READER_QUESTION)
         return 0;
     sprintf(what, "asked for by '%.40s', all of the head was taken, and it is refused", asked);
-    expect(what, number(result + OUINET_READER_RESULT_WORD) == OUINET_READER_REFUSED && number(state) == 9);
+    expect(what, taken == length && number(result + OUINET_READER_RESULT_WORD) == OUINET_READER_REFUSED && number(state) == 9);
     return (unsigned)number(result + OUINET_READER_RESULT_FIRST);
 }
 

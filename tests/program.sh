@@ -112,28 +112,47 @@ for asked in https://example.com/other https://example.com/hell https://example.
     another "'$asked'" "$asked"
 done
 
-# told_of NAME: the same of a URI that is shown in some other way, in one printable line.
-told_of() {
-    local shown
-    bare stream ring answers --uri asked
-    shown=$(cat err)
-    check "asked for $1: refused" cmp -s other out
-    check "asked for $1: told" test "$(wc -l <err)" -eq 1
-    check "asked for $1: in these words" eval '[[ $shown == "this is another show: asked for \`"*"\`, got \`https://example.com/hello\`" ]]'
-    check "asked for $1: printable" eval '! LC_ALL=C grep -q "[^ -~]" err'
-    check "asked for $1: short" test "$(wc -c <err)" -lt 5000
-}
+# What is not printable is escaped, and so is what could pass for the end of a quotation
 { cat uri; echo; } >asked
-told_of 'it and a line feed'
-check 'a line feed at the end is shown' eval '[[ $(cat err) != *"\`https://example.com/hello\`,"* ]]'
-printf 'https://example.com/hello\r\n' >asked
-told_of 'it and CR LF'
-printf '\033[2J\0\377' >asked
-told_of 'control bytes'
+another 'it and a line feed' 'https://example.com/hello\x0a'
+printf 'https://example.com/hello\r\n\t' >asked
+another 'it, CR LF and a tab' 'https://example.com/hello\x0d\x0a\x09'
+printf '\033[2J\0\377\177~ ' >asked
+another 'control bytes' '\x1b[2J\x00\xff\x7f~ '
+printf '%s' 'north`, got `south\x60' >asked
+another 'a quotation within it' 'north\x60, got \x60south\\x60'
+
+# times TEXT COUNT: the text so many times.
+times() {
+    local text
+    printf -v text "%$2s" ''
+    printf '%s' "${text// /"$1"}"
+}
+
+# 100 bytes are shown, however many characters they become
+{ cat uri; times x 75; } >asked
+another 'a hundred bytes' "https://example.com/hello$(times x 75)"
+{ cat uri; times x 76; } >asked
+another 'a hundred and one bytes' "https://example.com/hello$(times x 75)..."
 { cat uri; head -c 1000000 /dev/zero | tr '\0' x; } >asked
-told_of 'a million bytes'
+another 'a million bytes' "https://example.com/hello$(times x 75)..."
 head -c 1000000 /dev/zero >asked
-told_of 'a million zero bytes'
+another 'a million zero bytes' "$(times '\x00' 100)..."
+
+# late NAME ASKED GOT SHOWN SHOWN: a URI is asked for, the head has another, and so much is shown of both: what they begin with alike is cut.
+late() {
+    printf '%s' "$2" >asked
+    sed "s|^X-Ouinet-URI: .*\r|X-Ouinet-URI: $3\r|" stream >wrong
+    bare wrong ring answers --uri asked
+    expect "$1" other "this is another show: asked for \`$4\`, got \`$5\`"
+}
+late 'ones that differ in byte 100' "$(times x 99)s" "$(times x 99)n" "$(times x 99)s" "$(times x 99)n"
+late 'ones that differ in byte 101' "$(times x 100)s" "$(times x 100)n" "...$(times x 40)s" "...$(times x 40)n"
+late 'one that goes on' "$(times x 101)" "$(times x 100)" "...$(times x 41)" "...$(times x 40)"
+late 'one that ends' "$(times x 100)" "$(times x 101)" "...$(times x 40)" "...$(times x 41)"
+late '40 bytes alike' "$(times x 40)s" "$(times x 101)" "$(times x 40)s" "$(times x 100)..."
+late '41 bytes alike' "$(times x 41)s" "$(times x 101)" "...$(times x 40)s" "...$(times x 100)"
+late 'both ends cut' "$(times x 6000)s$(times y 59)" "$(times x 6000)n$(times y 60)" "...$(times x 40)s$(times y 59)" "...$(times x 40)n$(times y 59)..."
 printf 'refused 16\ntally blocks 0 bytes 0 closed 0 refused 1\n' >counted
 printf north >asked
 bare stream ring nothing --tally --uri asked --where

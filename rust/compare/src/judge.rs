@@ -5,6 +5,10 @@ use streams::case::{Case, Expected};
 
 /// How the line about another show begins.
 const OTHER_SHOW: &str = "this is another show: ";
+/// It never has more bytes.
+const MOST_LINE: usize = 1000;
+/// Two URIs of no more bytes are shown whole in it.
+const MOST_WHOLE: usize = 100;
 
 /// All complaints about a case, one line each. None means that it passed.
 pub fn complaints(case: &Case, outcomes: &[Outcome; 2], have_status: [bool; 2]) -> Vec<String> {
@@ -85,7 +89,8 @@ fn against_errors(case: &Case, outcome: &Outcome) -> Vec<String> {
         return Vec::new();
     }
     let text = String::from_utf8_lossy(&outcome.errors).into_owned();
-    let is_right = if is_other_show(outcome) { names_other_show(case, &text) } else { text.is_empty() };
+    let is_right =
+        if is_other_show(outcome) { names_other_show(&case.uri, &case.stream, &text) } else { text.is_empty() };
     if is_right {
         Vec::new()
     } else {
@@ -93,18 +98,37 @@ fn against_errors(case: &Case, outcome: &Outcome) -> Vec<String> {
     }
 }
 
-/// Whether this is one line about another show. A URI that is short and plain text must stand in it as it is, and nothing may be
-/// shown that is not printable.
-fn names_other_show(case: &Case, text: &str) -> bool {
+/// Whether this is one line about another show, and all of it printable. What it shows of the two URIs differs; where both are short, the
+/// one that is plain text stands there as it is.
+fn names_other_show(asked: &[u8], stream: &[u8], text: &str) -> bool {
+    let Some([asked_shown, got_shown]) = shown_uris(text) else { return false };
+    let got = head_uri(stream);
+    let are_short = asked.len().max(got.len()) <= MOST_WHOLE;
     let is_plain = |byte: &u8| (32..127).contains(byte) && !b"\\`".contains(byte);
-    let asked = if case.uri.len() < 60 && case.uri.iter().all(is_plain) {
-        format!("asked for `{}`, got `", String::from_utf8_lossy(&case.uri))
-    } else {
-        "asked for `".to_string()
-    };
-    let Some(line) = text.strip_suffix("`\n") else { return false };
-    let is_printable = line.bytes().all(|byte| (32..127).contains(&byte)) && line.len() < 5000;
-    is_printable && line.contains(&format!("{OTHER_SHOW}{asked}")) && line.contains("`, got `")
+    let is_right = |uri: &[u8], shown: &str| !are_short || !uri.iter().all(is_plain) || shown.as_bytes() == uri;
+    asked_shown != got_shown && is_right(asked, asked_shown) && is_right(got, got_shown)
+}
+
+/// What the line shows of the URI asked for and of the one that came: a backtick stands at their ends and nowhere in them.
+fn shown_uris(text: &str) -> Option<[&str; 2]> {
+    let line = text.strip_suffix('\n')?;
+    let is_printable = line.bytes().all(|byte| (32..127).contains(&byte));
+    if !is_printable || line.len() > MOST_LINE {
+        return None;
+    }
+    let parts: Vec<&str> = line[line.find(OTHER_SHOW)? + OTHER_SHOW.len()..].split('`').collect();
+    match parts[..] {
+        ["asked for ", asked, ", got ", got, ""] => Some([asked, got]),
+        _ => None,
+    }
+}
+
+/// The URI in a stream's head, which has one line of that name.
+fn head_uri(stream: &[u8]) -> &[u8] {
+    let name = b"X-Ouinet-URI:";
+    let mut lines = stream.split(|&byte| byte == b'\n');
+    let found = lines.find(|line| line.get(..name.len()).is_some_and(|front| front.eq_ignore_ascii_case(name)));
+    found.map_or(b"", |line| line[name.len()..].trim_ascii())
 }
 
 fn against_status(expected: i32, outcome: &Outcome) -> Vec<String> {
@@ -178,4 +202,48 @@ fn status(outcome: &Outcome) -> String {
 fn last_line(outcome: &Outcome) -> String {
     let text = String::from_utf8_lossy(&outcome.output).into_owned();
     text.lines().last().unwrap_or("").to_string()
+}
+
+#[cfg(test)]
+mod tests {
+    use super::*;
+
+    const STREAM: &[u8] =
+        b"HTTP/1.1 200 OK\r\nX-Ouinet-URI2: a\r\nx-ouinet-URI:\t b \r\nA: b\r\n\r\nX-Ouinet-URI: c\r\n";
+
+    #[test]
+    fn lines_about_another_show() {
+        assert_eq!(head_uri(STREAM), b"b");
+        let line = |asked: &str, got: &str| format!("name: {OTHER_SHOW}asked for `{asked}`, got `{got}`\n");
+        assert!(names_other_show(b"a b", STREAM, &line("a b", "b")));
+        assert!(names_other_show(b"", STREAM, &line("", "b")));
+        assert!(names_other_show(b"a\\", STREAM, &line(r"a\\", "b")));
+        for (asked, got) in [("a", "b"), ("a b", "c"), ("a b", "a b"), ("...a b", "...b"), ("a b", "")] {
+            assert!(!names_other_show(b"a b", STREAM, &line(asked, got)), "{asked}, {got}");
+        }
+        assert!(!names_other_show(b"\n", STREAM, &line("b", "b")));
+        // Of long ones it is not known here what is shown, but that it differs
+        let long = "x".repeat(101);
+        assert!(names_other_show(long.as_bytes(), STREAM, &line("...x", "...")));
+        assert!(!names_other_show(long.as_bytes(), STREAM, &line("...", "...")));
+    }
+
+    #[test]
+    fn lines_that_are_none() {
+        let good = format!("{OTHER_SHOW}asked for `a`, got `b`\n");
+        assert!(names_other_show(b"a", STREAM, &good));
+        for wrong in [
+            good.replace('\n', ""),
+            good.repeat(2),
+            good.replace(OTHER_SHOW, ""),
+            good.replace("`b`", "`b`."),
+            good.replace("`b`", "`b``"),
+            good.replace("`b`", "b"),
+            good.replace("this", "\u{1b}this"),
+            good.replace("`a`", &format!("`{}`", "a".repeat(1000))),
+            String::new(),
+        ] {
+            assert!(!names_other_show(b"a", STREAM, &wrong), "{wrong:?}");
+        }
+    }
 }

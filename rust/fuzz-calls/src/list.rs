@@ -106,17 +106,18 @@ impl<'a> List<'a> {
         let call = self.draw();
         let lengths = self.draw_lengths();
         tally.calls += 1;
-        tally.late_uris += u64::from(self.is_late_uri(&call));
         if lengths.state < raw::STATE_SIZE || lengths.result < raw::RESULT_SIZE {
             tally.too_short += 1;
             let word = self.make(&call, &lengths);
             same("the returned word", &word, &raw::SHORT)?;
         } else {
+            let is_late_uri = self.is_late_uri(&call);
             let outcome = self.tell(&call, &lengths);
             let word = self.make(&call, &lengths);
             same("the returned word", &word, &word_of(&outcome.word))?;
             self.expect(&outcome);
             count(&outcome.word, tally);
+            tally.late_uris += u64::from(is_late_uri && !leaves_all(&outcome.word));
         }
         self.buffers.check()?;
         self.check_block()?;
@@ -237,7 +238,7 @@ impl<'a> List<'a> {
     /// other may change the state, whose bytes are the library's own.
     fn expect(&mut self, outcome: &Outcome) {
         self.buffers.result.expect(&result_of(outcome));
-        if matches!(outcome.word, Word::Refused(Refusal { number: 1 | 2, .. })) {
+        if leaves_all(&outcome.word) {
             return;
         }
         self.buffers.state.accept_front(raw::STATE_SIZE);
@@ -307,6 +308,11 @@ impl<'a> List<'a> {
         }
         name
     }
+}
+
+/// Whether a word says that the call changed nothing.
+fn leaves_all(word: &Word) -> bool {
+    matches!(word, Word::Refused(Refusal { number: 1 | 2, .. }))
 }
 
 /// Up to a line feed somewhere in the rest, or a byte or two before or behind it.

@@ -20,7 +20,8 @@ pub struct Tally {
     pub values: u64,
     /// Counts of a field's lines that were above 1.
     pub repeated: u64,
-    /// Feeds that were lent another URI, when the head had been judged: it is not looked at then.
+    /// Feeds that were lent another URI when the head had been judged, and were read all the same: it is not looked at then. Those that are
+    /// refused with 1 or 2, or are answered that a buffer is too short, show nothing of it and do not count.
     pub late_uris: u64,
 }
 

@@ -3,7 +3,7 @@
 use ouinet_reader::{Event, Reader, Refusal};
 use std::fmt::Write;
 
-/// The line of an event, without its line feed. The last one says where any URI was taken.
+/// The line of an event, without its line feed. The last one says where any URI would do.
 pub fn line(reader: &Reader, event: &Event, any_uri: bool) -> String {
     let mut line = members(reader, event);
     if any_uri && event.is_final() {

@@ -13,16 +13,13 @@ mod progress;
 use diagnosis::Diagnosis;
 use files::{Source, Target};
 use options::{Asked, Options, Wanted};
-use ouinet_reader::{printable, run, Ending, Event, Question, Reader, Refusal, RunError, Section};
+use ouinet_reader::{quoted, run, Ending, Event, Question, Reader, Refusal, RunError, Section};
 use progress::Progress;
 use std::io::{self, IsTerminal, Write};
 use std::process::ExitCode;
 
 /// What goes to standard error where a file cannot be used, as one line.
 type Complaint = String;
-
-/// So many bytes of a URI are shown in the last word.
-const MOST_URI: usize = 100;
 
 /// The exit status of a refused stream.
 const REFUSED: u8 = 1;
@@ -136,12 +133,12 @@ impl Sitting {
         }
     }
 
-    /// What the last word says of the user's choice to take any URI.
+    /// What the last word says of the user's choice that any URI will do.
     fn any_uri(&self) -> String {
         match self.taken_uri.as_deref() {
             None => String::new(),
-            Some(b"") => "; any URI was taken (--any-uri)".to_string(),
-            Some(uri) => format!("; any URI was taken (--any-uri), and the head gives `{}`", printable(uri, MOST_URI)),
+            Some(b"") => "; any URI would do (--any-uri)".to_string(),
+            Some(uri) => format!("; any URI would do (--any-uri), and the head gives {}", quoted(uri)),
         }
     }
 

@@ -39,7 +39,8 @@ The lines of --json:
   {\"event\":\"refused\",\"number\":11,\"meaning\":\"the stream stops before its end\",\"at\":null,\"stream_offset\":null}
 With refusals 3 and 6, at is where the text of the head, chunk line, data end or trailer goes wrong, counted from its first byte, or
 its length as far as it was taken; stream_offset is where in the stream that is. With refusal 16 there are two more, asked and got: the
-URI asked for and the one that came. With --any-uri the last event has \"any_uri\":true.";
+URI asked for and the one that came. In uri, asked and got one character from U+0000 to U+00FF stands for each byte, since a URI need
+not be UTF-8. With --any-uri the last event has \"any_uri\":true.";
 
 /// What the program is asked to do.
 pub enum Asked {

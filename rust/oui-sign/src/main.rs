@@ -20,13 +20,13 @@ usage:
       makes a new Ed25519 key, keeps it in KEYFILE, and prints the line that a key ring needs to trust it
   oui-sign ring KEYFILE [--first SECOND] [--last SECOND]
       prints that line for a key that is there
-  oui-sign sign KEYFILE [FILE] [-o STREAM] [--block-size N] [--uri URI] [--type TYPE] [--id ID] [--ts SECOND]
+  oui-sign sign KEYFILE [FILE] --uri URI [-o STREAM] [--block-size N] [--type TYPE] [--id ID] [--ts SECOND]
                 [--header 'NAME: VALUE']..
       writes FILE as a signed stream (version 4), from standard input and to standard output unless told otherwise
 
 A line of a ring trusts the key from the first to the last second; these are 0 and 4102444800 (the year 2100) unless told
-otherwise. A block has 65536 bytes, the time is now, the id is drawn at random, the type is application/octet-stream and the URI
-https://example.com/show unless told otherwise. The URI is what the show is asked for by, byte for byte; it is not empty, has no blanks
+otherwise. A block has 65536 bytes, the time is now, the id is drawn at random and the type is application/octet-stream unless told
+otherwise. The URI is what the show is asked for by, byte for byte, so each show needs one of its own; it is not empty, has no blanks
 at its ends and no control characters.
 Each --header is a further field of the head, and is signed; a name may come several times. Content-Type is set by --type.
 A name that begins X-Ouinet- or is Content-Length or Transfer-Encoding cannot be given.

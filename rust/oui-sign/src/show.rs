@@ -31,7 +31,7 @@ impl Show {
     pub fn from(options: &mut Options) -> Result<Self, String> {
         let show = Show {
             block_size: options.block_size()?,
-            uri: options.named("--uri").unwrap_or_else(|| "https://example.com/show".to_string()),
+            uri: options.named("--uri").ok_or("which show is it? --uri URI; see oui-sign --help")?,
             content_type: options.named("--type").unwrap_or_else(|| "application/octet-stream".to_string()),
             id: options.named("--id").unwrap_or_else(any_id),
             ts: options.number("--ts")?.unwrap_or_else(now),

@@ -130,4 +130,4 @@ pub use refusal::Refusal;
 pub use ring::{Record, Ring, RingFault, MOST_RECORDS};
 pub use run::{run, Ending, RunError};
 pub use section::{Section, SectionKind};
-pub use uri::{another_show, head_uri, printable};
+pub use uri::{another_show, head_uri, printable, quoted};

@@ -34,34 +34,66 @@ fn value_of<'l>(line: &'l [u8], name: &[u8]) -> Option<&'l [u8]> {
     Some(&value[start..=last])
 }
 
-/// The sentence for the person who waits for a show and gets another: ``this is another show: asked for `..`, got `..` ``. It is
-/// printable ASCII, whatever the two hold. Long URIs are cut, so that the first byte in which they differ is shown.
+/// The sentence for the person who waits for a show and gets another: ``this is another show: asked for `..`, got `..` ``, each as
+/// [`quoted`] has it. Where one is long, what they have in common is cut, so that the first byte in which they differ is shown of both.
 pub fn another_show(asked: &[u8], got: &[u8]) -> String {
     let alike = asked.iter().zip(got).take_while(|(a, b)| a == b).count();
     let is_long = asked.len().max(got.len()) > MOST_SHOWN;
     let start = if is_long { alike.saturating_sub(BEFORE_DIFFERENCE) } else { 0 };
-    let before = if start > 0 { CUT } else { "" };
-    let shown = |uri: &[u8]| format!("`{before}{}`", printable(&uri[start..], MOST_SHOWN));
-    format!("this is another show: asked for {}, got {}", shown(asked), shown(got))
+    let [asked, got] = [asked, got].map(|uri| quoted_from(uri, start));
+    format!("this is another show: asked for {asked}, got {got}")
 }
 
-/// Bytes from anywhere, as they may be shown to a person: printable ASCII as it is, all else escaped, a backslash too, so that an
+/// A URI from anywhere, between backticks, as it may be shown to a person: printable ASCII as it is, but for a backslash, which is
+/// doubled, and a backtick, which would end the quotation; that and any other byte is `\x` and two digits. At most 100 bytes are
+/// shown, with dots behind them if there are more.
+pub fn quoted(uri: &[u8]) -> String {
+    quoted_from(uri, 0)
+}
+
+/// The same of what stands from a place on, with dots before it if it is not the beginning.
+fn quoted_from(uri: &[u8], start: usize) -> String {
+    let rest = &uri[start..];
+    let before = if start > 0 { CUT } else { "" };
+    let shown: String = rest.iter().take(MOST_SHOWN).map(|&byte| escaped_in_quotation(byte)).collect();
+    let after = if rest.len() > MOST_SHOWN { CUT } else { "" };
+    format!("`{before}{shown}{after}`")
+}
+
+/// Text from anywhere, as it may be shown to a person: printable ASCII as it is, all else escaped, a backslash too, so that an
 /// escape cannot be mistaken for text. At most so many bytes are shown, with dots behind them if there are more.
 pub fn printable(bytes: &[u8], most: usize) -> String {
-    let shown: String = bytes.iter().take(most).map(|&byte| escaped(byte)).collect();
+    let shown: String = bytes.iter().take(most).map(|&byte| escaped_in_text(byte)).collect();
     let after = if bytes.len() > most { CUT } else { "" };
     shown + after
+}
+
+fn escaped_in_text(byte: u8) -> String {
+    match byte {
+        b'\r' => r"\r".to_string(),
+        b'\n' => r"\n".to_string(),
+        b'\t' => r"\t".to_string(),
+        _ => escaped(byte),
+    }
+}
+
+fn escaped_in_quotation(byte: u8) -> String {
+    match byte {
+        b'`' => in_digits(byte),
+        _ => escaped(byte),
+    }
 }
 
 fn escaped(byte: u8) -> String {
     match byte {
         b'\\' => r"\\".to_string(),
-        b'\r' => r"\r".to_string(),
-        b'\n' => r"\n".to_string(),
-        b'\t' => r"\t".to_string(),
         32..=126 => char::from(byte).to_string(),
-        _ => format!(r"\x{byte:02x}"),
+        _ => in_digits(byte),
     }
+}
+
+fn in_digits(byte: u8) -> String {
+    format!(r"\x{byte:02x}")
 }
 
 #[cfg(test)]
@@ -100,8 +132,10 @@ mod tests {
         assert_eq!(another_show(b"", b"u"), "this is another show: asked for ``, got `u`");
         assert_eq!(
             another_show(b"u\n", b"\x1b[2Ju\\\xe9\x7f"),
-            r"this is another show: asked for `u\n`, got `\x1b[2Ju\\\xe9\x7f`"
+            r"this is another show: asked for `u\x0a`, got `\x1b[2Ju\\\xe9\x7f`"
         );
+        // A quotation's end cannot be forged
+        assert_eq!(another_show(b"a`, got `b", b"b"), r"this is another show: asked for `a\x60, got \x60b`, got `b`");
     }
 
     #[test]
@@ -116,6 +150,56 @@ mod tests {
         assert!(sentence.ends_with(&format!(", got `...{}`", "a".repeat(40))), "{sentence}");
         let sentence = another_show(&b"\0".repeat(1_000_000), &b"\x01".repeat(8000));
         assert!(sentence.len() < 1000, "{sentence}");
+    }
+
+    /// The two URIs as a sentence shows them.
+    fn shown(asked: &[u8], got: &[u8]) -> [String; 2] {
+        let sentence = another_show(asked, got);
+        let parts: Vec<&str> = sentence.split('`').collect();
+        let [front, asked, between, got, after] = parts[..] else { panic!("{sentence}") };
+        assert_eq!((front, between, after), ("this is another show: asked for ", ", got ", ""));
+        [asked.to_string(), got.to_string()]
+    }
+
+    #[test]
+    fn what_is_cut() {
+        let x = |count: usize| "x".repeat(count);
+        for (asked, got, due) in [
+            // Neither is long
+            (x(99) + "s", x(99) + "n", [x(99) + "s", x(99) + "n"]),
+            (x(100), x(99), [x(100), x(99)]),
+            // One is, by a byte
+            (x(101), x(100), [format!("...{}", x(41)), format!("...{}", x(40))]),
+            (x(99) + "ss", x(99) + "n", [format!("...{}ss", x(40)), format!("...{}n", x(40))]),
+            // They have 40 bytes in common, or one more
+            (x(101), x(40) + "n", [x(100) + "...", x(40) + "n"]),
+            (x(101), x(41) + "n", [format!("...{}", x(100)), format!("...{}n", x(40))]),
+            (x(102), x(41) + "n", [format!("...{}...", x(100)), format!("...{}n", x(40))]),
+            (x(102), String::new(), [x(100) + "...", String::new()]),
+            // An escape counts as one byte
+            ("`".repeat(101), "`".into(), [r"\x60".repeat(100) + "...", r"\x60".into()]),
+        ] {
+            assert_eq!(shown(asked.as_bytes(), got.as_bytes()), due, "{asked}, {got}");
+            let [first, second] = due;
+            assert_eq!(shown(got.as_bytes(), asked.as_bytes()), [second, first], "{got}, {asked}");
+        }
+    }
+
+    #[test]
+    fn quotations() {
+        for byte in 0..=255 {
+            let is_plain = (32..127).contains(&byte) && !b"\\`".contains(&byte);
+            let due = match byte {
+                b'\\' => r"\\".to_string(),
+                _ if is_plain => char::from(byte).to_string(),
+                _ => format!(r"\x{byte:02x}"),
+            };
+            assert_eq!(quoted(&[byte]), format!("`{due}`"));
+        }
+        assert_eq!(quoted(b"\t\r\n`\\\xff "), r"`\x09\x0d\x0a\x60\\\xff `");
+        let hundred = "x".repeat(100);
+        assert_eq!(quoted(hundred.as_bytes()), format!("`{hundred}`"));
+        assert_eq!(quoted(format!("{hundred}y").as_bytes()), format!("`{hundred}...`"));
     }
 
     #[test]

@@ -103,7 +103,8 @@ fn open(path: &Path) -> Result<File, Complaint> {
     File::open(path).map_err(|error| failed(path, &error))
 }
 
-/// The bytes of the URI's file. A URI in a head is shorter than the head's limit, so a file that is not can hold anything after that.
+/// The bytes of the URI's file. A URI in a head is shorter than the head's limit, and by more than what is shown of the asked one behind
+/// the first byte that differs, so a file that is not can hold anything after that.
 fn load_uri(path: &Path) -> Result<Vec<u8>, Complaint> {
     let mut bytes = Vec::new();
     let mut beginning = open(path)?.take(head::LIMIT as u64);

@@ -1,6 +1,9 @@
 //! The URI that the caller asked for: the examples of request #105 and their neighbours. Signatures are stand-ins, since the
 //! readings ask about them and never check them.
 
+mod common;
+
+use common::{head_with, ring, KEY};
 use second::calls::{Calls, Contents, Holds, Outcome, Word};
 use second::event::{Event, Refusal};
 use second::head;
@@ -10,7 +13,6 @@ use second::ring::Record;
 use std::path::PathBuf;
 use std::process::Command;
 
-const KEY: &str = "AAAAAAAAAAAAAAAAAAAAAAAAAAAAAAAAAAAAAAAAAAA=";
 const OTHER_KEY: &str = "AQAAAAAAAAAAAAAAAAAAAAAAAAAAAAAAAAAAAAAAAAA=";
 const SOUTH: &str = "https://example.com/South";
 const NORTH: &str = "https://example.com/North";
@@ -18,19 +20,9 @@ const PIECES: [usize; 5] = [1, 2, 7, 100, 65_536];
 /// A final refusal that has no place.
 const OTHER_SHOW: Refusal = Refusal { number: 16, at: None };
 
-fn ring() -> Vec<Record> {
-    vec![Record { key: [0; 32], first: 0, last: 999_999_999_999 }]
-}
-
 /// A head that is good in all, with this text between the colon and the line end of `X-Ouinet-URI`.
 fn head_of(uri: &str) -> String {
-    format!(
-        "HTTP/1.1 200 OK\r\nX-Ouinet-Version: 4\r\nX-Ouinet-URI:{uri}\r\nX-Ouinet-Injection: id=a,ts=1\r\n\
-         Transfer-Encoding: chunked\r\nX-Ouinet-BSigs: keyId=\"ed25519={KEY}\",algorithm=\"hs2019\",size=5\r\n\
-         X-Ouinet-Sig0: keyId=\"ed25519={KEY}\",algorithm=\"hs2019\",created=1,headers=\"(response-status) (created) \
-         x-ouinet-version x-ouinet-uri x-ouinet-injection\",signature=\"{}==\"\r\n\r\n",
-        "A".repeat(86)
-    )
+    head_with(uri, "", "")
 }
 
 fn south() -> String {
@@ -434,7 +426,10 @@ fn the_program_must_be_given_one() {
     ] {
         assert_eq!(folder.with(wrong), (String::new(), usage.to_string(), Some(2)), "{wrong:?}");
     }
-    assert_eq!(folder.run(&["--uri", "uri", "stream", "ring", "answers"]).1, usage);
+    // The options before the files, and two files, which are too few
+    for wrong in [&["--uri", "uri", "stream", "ring", "answers"][..], &["stream", "ring", "--uri", "uri"]] {
+        assert_eq!(folder.run(wrong), (String::new(), usage.to_string(), Some(2)), "{wrong:?}");
+    }
     for missing in ["missing", "folder"] {
         let (out, complaint, status) = folder.with(&["--uri", missing]);
         assert_eq!((out, status), (String::new(), Some(2)));

@@ -2,33 +2,23 @@
 //! beginning of a good text and one byte more must be none. Whether it is one is found here by completions of another make: all
 //! texts of a few letters, or many lines.
 
+mod common;
+
+use common::{head_with, ring};
 use second::chunk::{self, Before};
 use second::event::{Event, Refusal};
 use second::head;
 use second::plain;
 use second::reader::Reader;
-use second::ring::Record;
 use second::trailer;
 
 fn signature() -> String {
     format!("{}==", "A".repeat(86))
 }
 
-fn ring() -> Vec<Record> {
-    vec![Record { key: [0; 32], first: 0, last: 999_999_999_999 }]
-}
-
-const KEY: &str = "AAAAAAAAAAAAAAAAAAAAAAAAAAAAAAAAAAAAAAAAAAA=";
-
 /// A head that is good in all, for blocks of 5 bytes.
 fn good_head() -> String {
-    format!(
-        "HTTP/1.1 200 OK\r\nX-Ouinet-Version: 4\r\nX-Ouinet-URI: u\r\nX-Ouinet-Injection: id=a,ts=1\r\n\
-         Transfer-Encoding: chunked\r\nX-Ouinet-BSigs: keyId=\"ed25519={KEY}\",algorithm=\"hs2019\",size=5\r\n\
-         X-Ouinet-Sig0: keyId=\"ed25519={KEY}\",algorithm=\"hs2019\",created=1,headers=\"(response-status) (created) \
-         x-ouinet-version x-ouinet-uri x-ouinet-injection\",signature=\"{}\"\r\n\r\n",
-        signature()
-    )
+    head_with(" u", "", "")
 }
 
 /// The last event of a stream, all answers yes: by the plain reading, and by the piecewise reader in single bytes.

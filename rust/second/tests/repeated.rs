@@ -1,36 +1,24 @@
 //! Names that come in several lines of a head: the examples of request #102, and random heads whose signing string, values and
 //! counts are worked out here in another way. Signatures are stand-ins, since the readings ask about them and never check them.
 
+mod common;
+
+use common::ring;
 use second::calls::{Calls, Holds, Word};
 use second::event::{Event, Refusal};
 use second::head::{self, Head};
 use second::plain;
 use second::reader::Reader;
-use second::ring::Record;
 
-const KEY: &str = "AAAAAAAAAAAAAAAAAAAAAAAAAAAAAAAAAAAAAAAAAAA=";
-const PSEUDO: &str = "(response-status) (created)";
-const NEEDED: &str = "x-ouinet-version x-ouinet-uri x-ouinet-injection";
 /// What the string has before the lines of further names.
 const FRONT: &str =
     "(response-status): 200\n(created): 1\nx-ouinet-version: 4\nx-ouinet-uri: u\nx-ouinet-injection: id=a,ts=1";
 /// How many fields a head has beside the ones that are given.
 const OWN_FIELDS: usize = 6;
 
-fn ring() -> Vec<Record> {
-    vec![Record { key: [0; 32], first: 0, last: 999_999_999_999 }]
-}
-
 /// A head with these lines, the CR LF of each included, and these names listed beside the needed ones.
 fn head_with(lines: &str, listed: &str) -> String {
-    let names = format!("{PSEUDO} {NEEDED} {listed}");
-    format!(
-        "HTTP/1.1 200 OK\r\nX-Ouinet-Version: 4\r\nX-Ouinet-URI: u\r\nX-Ouinet-Injection: id=a,ts=1\r\n{lines}\
-         Transfer-Encoding: chunked\r\nX-Ouinet-BSigs: keyId=\"ed25519={KEY}\",algorithm=\"hs2019\",size=5\r\n\
-         X-Ouinet-Sig0: keyId=\"ed25519={KEY}\",algorithm=\"hs2019\",created=1,headers=\"{}\",signature=\"{}==\"\r\n\r\n",
-        names.trim_end(),
-        "A".repeat(86),
-    )
+    common::head_with(" u", lines, listed)
 }
 
 /// The good head with these lines and listed names.
