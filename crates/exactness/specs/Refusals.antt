@@ -31,8 +31,8 @@ pub record Unended (ends : List ℕ → Bool) (limit : ℕ) (l : List ℕ) : Typ
   pub none : (n : ℕ) → n ≤ length l → ends (take n l) ≡ false
 
 -- `Refuses terms front yeses n place`: the last byte of `front` breaks a rule, with the refusal n, where all before it is good and
--- `yeses` questions were answered with yes. Of several broken rules the first gives the number, in the order of the paper and its requests; the place is
--- counted from the first byte of the head, line, data end or trailer.
+-- `yeses` questions were answered with yes. Of several broken rules the first gives the number, in the order of the paper and its requests;
+-- the place is counted from the first byte of the head, line, data end or trailer.
 pub data Refuses (terms : Terms) : List ℕ → ℕ → ℕ → ℕ → Type 0 where
   -- 3, 4, 5, 16 and 12
   head-refused : {h : List ℕ} {n place : ℕ} → Whole endsHead headLimit h

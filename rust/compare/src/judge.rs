@@ -123,7 +123,8 @@ fn shown_uris(text: &str) -> Option<[&str; 2]> {
     }
 }
 
-/// The URI in a stream's head, which has one line of that name.
+/// The URI in a stream's head, which has one line of that name. It is looked up here and not by the second reader, which is one of the two
+/// that are judged.
 fn head_uri(stream: &[u8]) -> &[u8] {
     let name = b"X-Ouinet-URI:";
     let mut lines = stream.split(|&byte| byte == b'\n');

@@ -53,17 +53,19 @@ pub fn quoted(uri: &[u8]) -> String {
 
 /// The same of what stands from a place on, with dots before it if it is not the beginning.
 fn quoted_from(uri: &[u8], start: usize) -> String {
-    let rest = &uri[start..];
     let before = if start > 0 { CUT } else { "" };
-    let shown: String = rest.iter().take(MOST_SHOWN).map(|&byte| escaped_in_quotation(byte)).collect();
-    let after = if rest.len() > MOST_SHOWN { CUT } else { "" };
-    format!("`{before}{shown}{after}`")
+    format!("`{before}{}`", beginning(&uri[start..], MOST_SHOWN, escaped_in_quotation))
 }
 
 /// Text from anywhere, as it may be shown to a person: printable ASCII as it is, all else escaped, a backslash too, so that an
 /// escape cannot be mistaken for text. At most so many bytes are shown, with dots behind them if there are more.
 pub fn printable(bytes: &[u8], most: usize) -> String {
-    let shown: String = bytes.iter().take(most).map(|&byte| escaped_in_text(byte)).collect();
+    beginning(bytes, most, escaped_in_text)
+}
+
+/// At most so many bytes, each escaped in this way, and dots behind them if there are more.
+fn beginning(bytes: &[u8], most: usize, escaped: fn(u8) -> String) -> String {
+    let shown: String = bytes.iter().take(most).map(|&byte| escaped(byte)).collect();
     let after = if bytes.len() > most { CUT } else { "" };
     shown + after
 }
