@@ -1,4 +1,5 @@
 // The trailer, gathered from the front of the block buffer and judged once, at its end.
+use limits::HEAD_LIMIT;
 use refusals::Refusal;
 use state::Phase;
 use state::Reader;
@@ -15,13 +16,10 @@ ghost use Rattle.stream.specs.Trailer.{isWholeTrailer};
 ghost use Rattle.state.specs.Configuration.{configuration, nextOf};
 ghost use Rattle.body_steps.specs.Trailer.{trailerGathered, pushTrailer};
 
-// A trailer without its end is refused at this many bytes.
-const TRAILER_LIMIT: usize = 8_192;
-
 fn is_whole_trailer(text: &[u8]) -> bool
     ensures { λ r. ⌜ r ≡ isWholeTrailer (now (text .entry)) ⌝ }
 {
-    field_lines::ends_trailer(text) | (TRAILER_LIMIT <= text.len())
+    field_lines::ends_trailer(text) | (HEAD_LIMIT <= text.len())
 }
 
 // With its newest byte, the trailer is the first `have` bytes of the block buffer.
@@ -44,7 +42,7 @@ pub fn push_trailer(r: Reader, block: &mut [u8], have: usize, total: u64, x: u8)
     ensures { λ s. ⌜ ((h q : List ℕ) → nextOf s h (now (block .exit)) q ≡ pushTrailer (configuration r h (now (block .entry)) q) have total x) ⌝ }
 {
     if block.len() <= have {
-        let at = TRAILER_LIMIT;
+        let at = HEAD_LIMIT;
         return refused(r, block, have, Refusal { number: 6, at });
     }
     block[have] = x;

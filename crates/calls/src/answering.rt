@@ -1,11 +1,11 @@
 // An answer to an open question: whether the signature is good.
-use crate::outcome::BLOCK_ROOM;
 use crate::outcome::Outcome;
 use crate::outcome::are_roomy;
 use crate::outcome::ended;
 use crate::outcome::told;
 use crate::outcome::unchanged;
 use blocks::BlockNumber;
+use limits::BLOCK_LIMIT;
 use state::Phase;
 use state::Reader;
 use state::Word;
@@ -81,7 +81,7 @@ fn answer_block(r: Reader, block: &mut [u8], size: usize, next: usize, good: boo
         let s = state::refused(r, block, size, why);
         return ended(s, 0);
     }
-    let length = places::least(size, BLOCK_ROOM);
+    let length = places::least(size, BLOCK_LIMIT);
     let chain = r.chain;
     let number = chain.number;
     let fixed = r.fixed;

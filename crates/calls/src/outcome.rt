@@ -1,4 +1,6 @@
 // What a call gives, and what stands before every call.
+use limits::BLOCK_LIMIT;
+use limits::HEAD_LIMIT;
 use state::Phase;
 use state::Reader;
 use state::Stepped;
@@ -7,11 +9,6 @@ ghost use mathlib.Core.Path.{_≡_};
 ghost use Rattle.refusals.specs.Refusals.{plain};
 ghost use Rattle.state.specs.Configuration.{noSignature};
 ghost use Rattle.calls.specs.Response.{areRoomy, isReading, takingBack};
-
-// The least room for a head, and for a question; and for a block.
-const HEAD_ROOM: usize = 8_192;
-
-pub(crate) const BLOCK_ROOM: usize = 65_536;
 
 // The word, how many bytes of the piece were taken, the signature that a question is about (else zeros), and the reader after the
 // call.
@@ -60,7 +57,7 @@ pub fn ended(s: Stepped, taken: usize) -> Outcome
 pub fn are_roomy(head: usize, block: usize, question: usize) -> bool
     ensures { λ r. ⌜ r ≡ areRoomy head block question ⌝ }
 {
-    (HEAD_ROOM <= head) & ((BLOCK_ROOM <= block) & (HEAD_ROOM <= question))
+    (HEAD_LIMIT <= head) & ((BLOCK_LIMIT <= block) & (HEAD_LIMIT <= question))
 }
 
 // Whether the reader reads on: no question is open, and no last word has been said.

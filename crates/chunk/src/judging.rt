@@ -1,13 +1,11 @@
 // A chunk line against its rules, in their order: the text, the signature, the block's size, the body's size.
 use crate::reading::read;
+use limits::BODY_LIMIT;
 use refusals::Refusal;
 ghost use mathlib.Core.Path.{_≡_};
 ghost use Rattle.stream.specs.Rule.{firstBroken};
 ghost use Rattle.chunk.specs.Judging.{refusedLine, lineJudged};
 ghost use Rattle.chunk.specs.Parts.{blockRules};
-
-// The most bytes that a body may have.
-const BODY_LIMIT: u64 = 4_294_967_296;
 
 pub enum LineAnswer {
     Refused(Refusal),

@@ -55,7 +55,7 @@ fn read_text(s: &[u8]) -> ChunkText
     ensures { λ r. ⌜ r ≡ textRead (now (s .entry)) ⌝ }
 {
     let end = classes::run_end(s, 0, Class::Hex);
-    match number::hex(&s[0..end], 8) {
+    match number::hex(&s[0..end], limits::SIZE_DIGITS) {
         Number::Value(size) => read_extension(&s[end..], size),
         Number::Bad(_) => wrong(),
     }

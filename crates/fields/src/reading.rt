@@ -1,8 +1,8 @@
 // The field lines of a head, as a table.
-use crate::table;
 use crate::table::Fields;
 use field_lines::Entry;
 use field_lines::FieldLine;
+use limits::FIELD_LIMIT;
 ghost use Prim.Native.Nat.{_≤_};
 ghost use lib.ListN.{drop, length};
 ghost use Rattle.stream.specs.Lines.{textLines};
@@ -39,7 +39,7 @@ pub fn read_fields(text: &[u8], from: usize) -> FieldsRead
     ensures { λ r. ⌜ ReadsFields (now (text .entry)) (textLines (drop from (now (text .entry)))) r ⌝ }
 {
     let nothing = field_lines::no_entry();
-    let mut entries = [nothing; table::FIELD_LIMIT];
+    let mut entries = [nothing; FIELD_LIMIT];
     let mut count = 0;
     let mut i = from;
     while i < text.len() {
@@ -48,7 +48,7 @@ pub fn read_fields(text: &[u8], from: usize) -> FieldsRead
             break;
         }
         let r = field_at(text, i, end);
-        if !r.good | (count == table::FIELD_LIMIT) {
+        if !r.good | (count == FIELD_LIMIT) {
             return FieldsRead {
                 good: false,
                 fields: Fields { count, entries },

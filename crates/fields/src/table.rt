@@ -1,13 +1,11 @@
 // The fields of a head as places in its text.
 use field_lines::Entry;
+use limits::FIELD_LIMIT;
 ghost use mathlib.Core.List.{List, []};
 ghost use mathlib.Core.Path.{_≡_};
 ghost use Prim.Native.Nat.{ℕ, min};
 ghost use Rattle.stream.specs.Limits.{fieldLimit};
 ghost use Rattle.fields.specs.Table.{fieldsIn};
-
-// The most fields that a head may have.
-pub const FIELD_LIMIT: usize = 64;
 
 // The first `count` entries are fields.
 pub struct Fields {

@@ -1,6 +1,8 @@
 // The reader's calls on buffers of any lengths: of each they lend on just the first part, as many bytes as the reader is to have, so
 // that whatever the state says no byte beyond is read or written.
 use calls::Outcome;
+use limits::BLOCK_LIMIT;
+use limits::HEAD_LIMIT;
 use places::least;
 use ring::KeyRing;
 use state::Reader;
@@ -12,11 +14,6 @@ ghost use Rattle.handing.specs.Released.{blockPart};
 ghost use Rattle.state.specs.Configuration.{configuration};
 ghost use Rattle.calls.specs.Response.{made};
 ghost use Rattle.fronts.specs.Fronts.{feedFront, answerFront, endFront};
-
-// The room for a head, and for a question; and for a block.
-const HEAD_ROOM: usize = 8_192;
-
-const BLOCK_ROOM: usize = 65_536;
 
 // A piece of the stream.
 pub fn feed(
@@ -30,9 +27,9 @@ pub fn feed(
 ) -> Outcome
     ensures { λ o. ⌜ made o (now (head .exit)) (now (block .exit)) (now (question .exit)) ≡ feedFront ring (now (uri .entry)) (configuration r (now (head .entry)) (now (block .entry)) (now (question .entry))) (now (piece .entry)) ⌝ }
 {
-    let h = least(HEAD_ROOM, head.len());
-    let b = least(BLOCK_ROOM, block.len());
-    let q = least(HEAD_ROOM, question.len());
+    let h = least(HEAD_LIMIT, head.len());
+    let b = least(BLOCK_LIMIT, block.len());
+    let q = least(HEAD_LIMIT, question.len());
     reader::feed(
         r,
         &mut head[..h],
@@ -54,9 +51,9 @@ pub fn answer(
 ) -> Outcome
     ensures { λ o. ⌜ made o (now (head .exit)) (now (block .exit)) (now (question .exit)) ≡ answerFront (configuration r (now (head .entry)) (now (block .entry)) (now (question .entry))) good ⌝ }
 {
-    let h = least(HEAD_ROOM, head.len());
-    let b = least(BLOCK_ROOM, block.len());
-    let q = least(HEAD_ROOM, question.len());
+    let h = least(HEAD_LIMIT, head.len());
+    let b = least(BLOCK_LIMIT, block.len());
+    let q = least(HEAD_LIMIT, question.len());
     reader::answer(r, &mut head[..h], &mut block[..b], &mut question[..q], good)
 }
 
@@ -64,9 +61,9 @@ pub fn answer(
 pub fn end(r: Reader, head: &mut [u8], block: &mut [u8], question: &mut [u8]) -> Outcome
     ensures { λ o. ⌜ made o (now (head .exit)) (now (block .exit)) (now (question .exit)) ≡ endFront (configuration r (now (head .entry)) (now (block .entry)) (now (question .entry))) ⌝ }
 {
-    let h = least(HEAD_ROOM, head.len());
-    let b = least(BLOCK_ROOM, block.len());
-    let q = least(HEAD_ROOM, question.len());
+    let h = least(HEAD_LIMIT, head.len());
+    let b = least(BLOCK_LIMIT, block.len());
+    let q = least(HEAD_LIMIT, question.len());
     reader::end(r, &mut head[..h], &mut block[..b], &mut question[..q])
 }
 
@@ -74,7 +71,7 @@ pub fn end(r: Reader, head: &mut [u8], block: &mut [u8], question: &mut [u8]) ->
 pub fn block_part(block: &[u8], released: usize) -> &[u8]
     ensures { λ r. ⌜ now r ≡ blockPart (take blockLimit (now (block .entry))) released ⌝ }
 {
-    let n = least(BLOCK_ROOM, block.len());
+    let n = least(BLOCK_LIMIT, block.len());
     reader::block_part(&block[0..n], released)
 }
 
@@ -82,7 +79,7 @@ pub fn block_part(block: &[u8], released: usize) -> &[u8]
 pub fn field_part<'a>(head: &'a [u8], accepted: usize, name: &[u8]) -> &'a [u8]
     ensures { λ r. ⌜ now r ≡ handedValue (take headLimit (now (head .entry))) accepted (now (name .entry)) ⌝ }
 {
-    let n = least(HEAD_ROOM, head.len());
+    let n = least(HEAD_LIMIT, head.len());
     reader::field_part(&head[0..n], accepted, name)
 }
 
@@ -90,6 +87,6 @@ pub fn field_part<'a>(head: &'a [u8], accepted: usize, name: &[u8]) -> &'a [u8]
 pub fn field_count(head: &[u8], accepted: usize, name: &[u8]) -> usize
     ensures { λ r. ⌜ r ≡ handedCount (take headLimit (now (head .entry))) accepted (now (name .entry)) ⌝ }
 {
-    let n = least(HEAD_ROOM, head.len());
+    let n = least(HEAD_LIMIT, head.len());
     reader::field_count(&head[0..n], accepted, name)
 }

@@ -1,6 +1,6 @@
 // The value of a signed field and the count of its lines, as they are handed out once the head is accepted. Names are compared without case.
 use fields::Fields;
-use head::HEAD_LIMIT;
+use limits::HEAD_LIMIT;
 ghost use mathlib.Core.Path.{_≡_};
 ghost use Rattle.fields.specs.Table.{fieldsIn};
 ghost use Rattle.stream.specs.Fields.{valuesOf};

@@ -7,6 +7,3 @@ mod whole; // a head read whole
 pub use signed::Signed;
 pub use whole::HeadRead;
 pub use whole::read;
-
-// A head, and a trailer, is refused at this many bytes, so a reader has as much room for one.
-pub const HEAD_LIMIT: usize = 8192;

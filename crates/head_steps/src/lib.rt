@@ -1,8 +1,8 @@
 // What one byte of the head does: it is gathered from the front of the head buffer, and the head that is whole with it is judged.
 use blocks::BlockNumber;
-use head::HEAD_LIMIT;
 use judging::HeadAnswer;
 use judging::Judged;
+use limits::HEAD_LIMIT;
 use refusals::Refusal;
 use ring::KeyRing;
 use state::Fixed;

@@ -4,6 +4,7 @@ use crate::lines::say;
 use crate::lines::say_count;
 use crate::lines::say_number;
 use judging::HeadAnswer;
+use limits::HEAD_LIMIT;
 use number::Number;
 use refusals::Refusal;
 use ring::KeyRing;
@@ -27,7 +28,12 @@ fn judge_next(input: &[u8], at: usize, ring: KeyRing) -> usize
     let start = find(input, at, b'\n') + 1;
     let end = start + size(places::part(input, space + 1, start - 1));
     let label = places::part(input, at, space);
-    judge_case(label, places::part(input, start, end), ring, &mut [0; 8192]);
+    judge_case(
+        label,
+        places::part(input, start, end),
+        ring,
+        &mut [0; HEAD_LIMIT],
+    );
     end
 }
 
@@ -61,7 +67,7 @@ fn size(digits: &[u8]) -> usize
 }
 
 // Whatever the head is, the same URI is asked for.
-fn judge_case(label: &[u8], head: &[u8], ring: KeyRing, question: &mut [u8; 8192]) {
+fn judge_case(label: &[u8], head: &[u8], ring: KeyRing, question: &mut [u8; HEAD_LIMIT]) {
     let judged = judging::judge(head, ring, b"https://example.com/hello", question);
     let id = judged.id;
     let signature = judged.signature;

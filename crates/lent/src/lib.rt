@@ -1,9 +1,9 @@
 // The key ring as a lent table. Whoever has the records in a slice of any length feeds through here: the slice is taken apart, and
 // the reader gets its ring by value.
+use limits::RING_LIMIT;
 use reader::Outcome;
 use ring::KeyRecord;
 use ring::KeyRing;
-use ring::RING_LIMIT;
 use state::Reader;
 ghost use mathlib.Core.List.{[]};
 ghost use mathlib.Core.Path.{_≡_};

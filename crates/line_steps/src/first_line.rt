@@ -1,5 +1,6 @@
 // The chunk lines, gathered in the state: the first one, and what all lines share.
 use chunk::LineAnswer;
+use limits::LINE_LIMIT;
 use refusals::Refusal;
 use state::Phase;
 use state::Reader;
@@ -14,9 +15,6 @@ ghost use Prim.Native.Nat.{ℕ, _≤_};
 ghost use Rattle.stream.specs.Blocks.{isWholeLine};
 ghost use Rattle.state.specs.Configuration.{configuration, nextOf};
 ghost use Rattle.line_steps.specs.FirstLine.{announced as announcedPhase, firstAnswered, firstGathered, pushFirstLine, tooLong};
-
-// A line without its end is refused at this many bytes.
-pub(crate) const LINE_LIMIT: usize = 128;
 
 // The refusal of a line that has no end within the limit.
 pub(crate) fn too_long() -> Refusal

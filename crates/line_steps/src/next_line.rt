@@ -1,9 +1,9 @@
 // The chunk line after a block: it carries the block's signature, and a good one leads to the question about the block.
-use crate::first_line::LINE_LIMIT;
 use crate::first_line::is_whole_line;
 use crate::first_line::too_long;
 use chunk::Line;
 use chunk::LineAnswer;
+use limits::LINE_LIMIT;
 use state::Phase;
 use state::Reader;
 use state::Stepped;

@@ -1,6 +1,6 @@
 // The names one by one.
-use crate::reading::NAME_LIMIT;
 use crate::reading::Names;
+use limits::NAME_LIMIT;
 ghost use mathlib.Core.List.{[]};
 ghost use mathlib.Core.Path.{_≡_};
 ghost use Prim.Native.Nat.{min};

@@ -1,13 +1,11 @@
 // The names that a signature lists, as places in their text.
+use limits::NAME_LIMIT;
 use places::Span;
 ghost use mathlib.Core.Path.{_≡_};
 ghost use Prim.Native.Nat.{_+_};
 ghost use lib.ListN.{drop, length};
 ghost use Rattle.stream.specs.Template.{run};
 ghost use Rattle.names.specs.NameList.{isNameByte, ReadsNames};
-
-// The most names that a signature may list.
-pub const NAME_LIMIT: usize = 32;
 
 // The first `count` spans are names.
 pub struct Names {

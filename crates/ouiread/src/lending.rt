@@ -1,7 +1,7 @@
 // The ring's records, lent to the reader.
+use limits::RING_LIMIT;
 use reader::Outcome;
 use ring::KeyRecord;
-use ring::RING_LIMIT;
 use state::Reader;
 ghost use mathlib.Core.Path.{_≡_};
 ghost use Prim.Native.Nat.{min};

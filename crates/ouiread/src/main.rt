@@ -23,19 +23,20 @@ use files::CUTS;
 use files::Loaded;
 use files::RING;
 use files::STREAM;
+use limits::HEAD_LIMIT;
 use ring::KeyRing;
 use sitting::Sitting;
 
 // Lent as arrays, the buffers need no count of their bytes in the proofs. A head has at most 8,192 bytes, and its URI fewer: a file that fills
 // the URI's buffer, or is longer, is no head's URI. Its beginning in the buffer is none either, and gives the same refusal.
-fn run(uri: &mut [u8; 8192]) {
+fn run(uri: &mut [u8; HEAD_LIMIT]) {
     let Loaded::Text(n) = files::load(options::read().uri, uri) else {
         return;
     };
     with_ring(
-        &mut [0; 8192],
+        &mut [0; HEAD_LIMIT],
         &mut [0; 65536],
-        &mut [0; 8192],
+        &mut [0; HEAD_LIMIT],
         &mut [0; 65536],
         &mut [0; 65536],
         places::part(uri, 0, n),
@@ -44,9 +45,9 @@ fn run(uri: &mut [u8; 8192]) {
 
 // The ring's text is read into the buffer for pieces, which is free until the stream is opened.
 fn with_ring(
-    head: &mut [u8; 8192],
+    head: &mut [u8; HEAD_LIMIT],
     block: &mut [u8; 65536],
-    question: &mut [u8; 8192],
+    question: &mut [u8; HEAD_LIMIT],
     piece: &mut [u8; 65536],
     text: &mut [u8; 65536],
     uri: &[u8],
@@ -72,9 +73,9 @@ fn with_ring(
 }
 
 fn with_cuts(
-    head: &mut [u8; 8192],
+    head: &mut [u8; HEAD_LIMIT],
     block: &mut [u8; 65536],
-    question: &mut [u8; 8192],
+    question: &mut [u8; HEAD_LIMIT],
     piece: &mut [u8; 65536],
     text: &mut [u8; 65536],
     ring: KeyRing,
@@ -110,9 +111,9 @@ fn with_cuts(
 }
 
 fn with_stream(
-    head: &mut [u8; 8192],
+    head: &mut [u8; HEAD_LIMIT],
     block: &mut [u8; 65536],
-    question: &mut [u8; 8192],
+    question: &mut [u8; HEAD_LIMIT],
     piece: &mut [u8; 65536],
     cuts: &[u8],
     ring: KeyRing,
@@ -158,5 +159,5 @@ fn main() {
         messages::usage();
         return;
     }
-    run(&mut [0; 8192]);
+    run(&mut [0; HEAD_LIMIT]);
 }

@@ -1,10 +1,10 @@
 // The key ring: a record a line, with a key and the first and the last second at which it is trusted, one space between.
 use crate::lines::cut_off;
 use crate::lines::following;
+use limits::RING_LIMIT;
 use number::Number;
 use ring::KeyRecord;
 use ring::KeyRing;
-use ring::RING_LIMIT;
 
 // The ring, or else the number of the line that is no record, or one too many.
 pub struct Keys {

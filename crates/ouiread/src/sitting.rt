@@ -6,6 +6,7 @@ use crate::files::ABSENT;
 use crate::files::BODY;
 use crate::messages;
 use crate::tallying::counted;
+use limits::HEAD_LIMIT;
 use state::Reader;
 use state::Word;
 use tally::Tally;
@@ -101,9 +102,9 @@ fn tell_plain(s: Sitting, block: &[u8], word: Word) -> Sitting {
 
 fn answer(
     s: Sitting,
-    head: &mut [u8; 8192],
+    head: &mut [u8; HEAD_LIMIT],
     block: &mut [u8; 65536],
-    question: &mut [u8; 8192],
+    question: &mut [u8; HEAD_LIMIT],
     good: bool,
 ) -> Sitting {
     let r = s.reader;
@@ -116,9 +117,9 @@ fn answer(
 // Answers the open question. Without an answer the program goes no further.
 fn ask(
     s: Sitting,
-    head: &mut [u8; 8192],
+    head: &mut [u8; HEAD_LIMIT],
     block: &mut [u8; 65536],
-    question: &mut [u8; 8192],
+    question: &mut [u8; HEAD_LIMIT],
 ) -> Sitting {
     let asked = s.answers;
     let n = answers::next_letter(asked);
@@ -159,9 +160,9 @@ fn is_question(w: Word) -> bool {
 // Writes an event and, where it is a question, answers it and writes what the answer gives.
 pub fn tell(
     s: Sitting,
-    head: &mut [u8; 8192],
+    head: &mut [u8; HEAD_LIMIT],
     block: &mut [u8; 65536],
-    question: &mut [u8; 8192],
+    question: &mut [u8; HEAD_LIMIT],
     word: Word,
 ) -> Sitting {
     let t = tell_plain(tallied(s, word), block, word);

@@ -9,6 +9,7 @@ use crate::messages;
 use crate::sitting::Sitting;
 use crate::sitting::tell;
 use crate::sitting::with_reader;
+use limits::HEAD_LIMIT;
 use reader::Outcome;
 use ring::KeyRing;
 use state::goes_on;
@@ -23,9 +24,9 @@ struct Fed {
 // Tells what a call gave, where it is an event.
 fn told(
     s: Sitting,
-    head: &mut [u8; 8192],
+    head: &mut [u8; HEAD_LIMIT],
     block: &mut [u8; 65536],
-    question: &mut [u8; 8192],
+    question: &mut [u8; HEAD_LIMIT],
     o: Outcome,
 ) -> Fed {
     let word = o.word;
@@ -43,9 +44,9 @@ fn told(
 // Feeds the rest of a piece up to the first event, and tells it.
 fn feed_rest(
     s: Sitting,
-    head: &mut [u8; 8192],
+    head: &mut [u8; HEAD_LIMIT],
     block: &mut [u8; 65536],
-    question: &mut [u8; 8192],
+    question: &mut [u8; HEAD_LIMIT],
     ring: KeyRing,
     uri: &[u8],
     rest: &[u8],
@@ -60,9 +61,9 @@ fn feed_rest(
 // Feeds a piece, and what is left of it after each event.
 fn feed_piece(
     s: Sitting,
-    head: &mut [u8; 8192],
+    head: &mut [u8; HEAD_LIMIT],
     block: &mut [u8; 65536],
-    question: &mut [u8; 8192],
+    question: &mut [u8; HEAD_LIMIT],
     ring: KeyRing,
     uri: &[u8],
     piece: &[u8],
@@ -97,9 +98,9 @@ fn read_piece(stream: i32, room: &mut [u8], size: usize) -> Filled {
 // Tells the reader that no bytes will follow.
 fn finish(
     s: Sitting,
-    head: &mut [u8; 8192],
+    head: &mut [u8; HEAD_LIMIT],
     block: &mut [u8; 65536],
-    question: &mut [u8; 8192],
+    question: &mut [u8; HEAD_LIMIT],
 ) -> Sitting {
     let r = s.reader;
     let o = reader::end(r, head, block, question);
@@ -112,9 +113,9 @@ fn finish(
 // read that fails is fed like the rest, and then the failure is told.
 pub fn read_all(
     s: Sitting,
-    head: &mut [u8; 8192],
+    head: &mut [u8; HEAD_LIMIT],
     block: &mut [u8; 65536],
-    question: &mut [u8; 8192],
+    question: &mut [u8; HEAD_LIMIT],
     piece: &mut [u8; 65536],
     cuts: &[u8],
     ring: KeyRing,

@@ -1,9 +1,9 @@
 // A key ring: its records one after the other, 48 bytes each.
 use crate::parts::copy_part;
 use crate::parts::number_at;
+use limits::RING_LIMIT;
 use ring::KeyRecord;
 use ring::KeyRing;
-use ring::RING_LIMIT;
 ghost use mathlib.Core.Path.{_≡_};
 ghost use Prim.Native.Nat.{_<_};
 ghost use Rattle.packing.specs.Keys.{countOf, recordAt, keysIn};

@@ -1,5 +1,4 @@
 // The value of `X-Ouinet-BSigs`: a key and the size of a block.
-use crate::limits;
 use crate::parts;
 use classes::Class;
 use number::Number;
@@ -50,7 +49,7 @@ fn judge(key: &[u8], size: &[u8]) -> Bsigs
     if !base64::key(key, &mut bytes) {
         return no_bsigs();
     }
-    match number::count(size, limits::SIZE_DIGITS, limits::BLOCK_LIMIT) {
+    match number::count(size, limits::BLOCK_DIGITS, limits::BLOCK_LIMIT as u64) {
         Number::Value(n) => Bsigs {
             good: true,
             key: bytes,

@@ -1,5 +1,4 @@
 // The value of `X-Ouinet-Injection`: an id and a time in seconds.
-use crate::limits;
 use crate::parts;
 use classes::Class;
 use number::Number;

@@ -1,7 +1,6 @@
 // The values of the fields `X-Ouinet-Injection`, `X-Ouinet-BSigs` and `X-Ouinet-Sig0`.
 mod bsigs; // a key and the size of a block
 mod injection; // an id and a time
-mod limits; // the limits of these values
 mod parts; // a value gone through part by part
 mod sig0; // a key, a time, the signed names and a signature
 

@@ -1,5 +1,4 @@
 // The value of `X-Ouinet-Sig0`: a key, a time, the signed names and a signature.
-use crate::limits;
 use crate::parts;
 use crate::parts::Run;
 use classes::Class;

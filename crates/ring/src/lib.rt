@@ -1,13 +1,11 @@
 // The key ring by value: made record by record, and searched for a key that is trusted at a time.
+use limits::RING_LIMIT;
 ghost use mathlib.Core.Path.{_≡_};
 ghost use mathlib.Core.List.{[]};
 ghost use Prim.Native.Nat.{min};
 ghost use Rattle.stream.specs.Limits.{ringLimit};
 ghost use Rattle.stream.specs.Ring.{found, fits as fitsOf};
 ghost use Rattle.ring.specs.Keys.{trustedOf, ringOf, foundOf, ringWith, keysWith, noKeys};
-
-// The most records that a ring has.
-pub const RING_LIMIT: usize = 16;
 
 // A key, and the first and the last second at which it is trusted.
 pub struct KeyRecord {
