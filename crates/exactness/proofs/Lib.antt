@@ -18,9 +18,6 @@ pub mod ChunkLines
 pub mod HonestShows
 pub mod ShowLogs
 pub mod Completeness
-pub mod Example
-pub mod RepeatedExample
 pub mod MessageLines
 pub mod OneValue
 pub mod AskedFor
-pub mod AskedExample

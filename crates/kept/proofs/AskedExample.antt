@@ -13,7 +13,7 @@ use Rattle.stream.specs.Stream.{plainReading}
 use Rattle.stream.proofs.Example.{terms, ring}
 use Rattle.stream.proofs.Truth.{same-self}
 use Rattle.exactness.specs.AskedFor.{uriOf}
-use Rattle.exactness.proofs.AskedExample.{stream, example-asked}
+use Rattle.examples.proofs.AskedExample.{stream, example-asked}
 use Rattle.kept.specs.Kept.{asAnotherShow}
 use Rattle.kept.proofs.OtherShow.{refused-where-not}
 use Rattle.kept.proofs.SameShow.{same-where-asked}

@@ -8,7 +8,7 @@ use Rattle.sections.specs.Calls.{feed, answer, end, Call, call}
 use Rattle.sections.specs.Machine.{step, fed, respond, turn}
 use Rattle.sections.proofs.Toy.{line, lastIs, says, toy, sample}
 use Rattle.stream.proofs.Example.{terms}
-use Rattle.exactness.proofs.Example.{example, example-honest}
+use Rattle.examples.proofs.Example.{example, example-honest}
 use Rattle.reaching.specs.Caller.{handOver, requestsOver}
 use Rattle.reaching.specs.Driver.{wellLent, callsOver}
 use Rattle.reaching.specs.Outcome.{showCalls, showOuts, ComesOut}

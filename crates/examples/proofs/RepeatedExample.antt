@@ -22,10 +22,10 @@ use Rattle.stream.proofs.Cases.{events, eventsFrom}
 use Rattle.stream.proofs.Example.{terms, exampleBody}
 use Rattle.stream.proofs.GivenHeads.{given-head}
 use Rattle.stream.proofs.RepeatCases.{withFields, signing, repeatedHead}
 use Rattle.exactness.specs.ShowEvents.{showEvents}
 use Rattle.exactness.specs.Shows.{Honest}
 use Rattle.exactness.specs.Telling.{released}
-use Rattle.exactness.proofs.Example.{computed-head, showAfter, honest-after, whole-after, body-after}
+use Rattle.examples.proofs.Example.{computed-head, showAfter, honest-after, whole-after, body-after}
 
 head-cut : cut isWholeHead repeatedHead ≡ cutAt repeatedHead []
 unfolding cut isWholeHead endsHead endsWith same withFields signing repeatedHead startsWith

@@ -6,10 +6,10 @@ use Prim.Native.Nat.{ℕ}
 use lib.ListN.{replicate}
 use Rattle.stream.specs.Stream.{plainReading}
 use Rattle.stream.proofs.Example.{terms, exampleHead, exampleBody}
 use Rattle.exactness.specs.AskedFor.{AsksFor}
 use Rattle.exactness.specs.ShowEvents.{showEvents}
 use Rattle.exactness.proofs.AskedFor.{asked-for-only}
-use Rattle.exactness.proofs.Example.{example-whole}
+use Rattle.examples.proofs.Example.{example-whole}
 
 abbrev pub stream : List ℕ
 stream = exampleHead ++ exampleBody
