@@ -6,8 +6,6 @@
 #include <sys/mman.h>
 #include <unistd.h>
 
-#include "../include/ouinet_reader.h"
-
 void must(int is_so, const char *what) {
     if (!is_so) {
         fprintf(stderr, "not so: %s\n", what);

@@ -5,10 +5,12 @@
 #include <stddef.h>
 #include <stdint.h>
 
+#include "../include/ouinet_reader.h"
+
 /* The longest piece that is fed. */
 #define MOST_PIECE 65536
-/* The longest URI that is asked for. */
-#define MOST_URI 16384
+/* The longest URI that is asked for: any that a head can have, and as much again. */
+#define MOST_URI (2 * OUINET_READER_HEAD_SIZE)
 
 struct lent {
     uint8_t *state, *head, *block, *question, *result, *piece, *ring, *uri;

@@ -53,12 +53,12 @@ extern "C" {
 #define OUINET_READER_RESULT_SIZE 96
 
 /* The least lengths of the three working buffers. A shorter one is refused with OUINET_READER_NO_ROOM. */
-#define OUINET_READER_HEAD_SIZE 8192
+#define OUINET_READER_HEAD_SIZE 32768
 #define OUINET_READER_BLOCK_SIZE 65536
-#define OUINET_READER_QUESTION_SIZE 8192
+#define OUINET_READER_QUESTION_SIZE 32768
 
 /* The most field lines that an accepted head has, and so the most that ouinet_reader_value_count gives. */
-#define OUINET_READER_FIELD_LIMIT 64
+#define OUINET_READER_FIELD_LIMIT 128
 
 /* ---- the key ring
  *
@@ -112,7 +112,7 @@ extern "C" {
  * OUINET_READER_BAD_HEAD and OUINET_READER_BAD_FRAME have a place, the second number of the result, counted from the first byte of the head, chunk
  * line, end of data or trailer. Where its text is wrong, the place is the length of the longest beginning that some good text has too, however
  * long as a whole and with its line ends: the byte there is the first that cannot stand where it does. Where the cause is another one
- * (no end within the limit, over 64 field lines, a field twice that may come only once), the place is the length of the section as far as it was
+ * (no end within the limit, over 128 field lines, a field twice that may come only once), the place is the length of the section as far as it was
  * taken. No end goes before wrong text, and that before fields. With all other refusals the second number is 0.
  *
  * A field may come only once if its name begins X-Ouinet- or is Content-Length or Transfer-Encoding, in any case. All others may be
@@ -121,10 +121,10 @@ extern "C" {
 
 #define OUINET_READER_NOT_DUE 1       /* feed or end with a question open; answer with none open; any call after a final word */
 #define OUINET_READER_NO_ROOM 2       /* head, block or question buffer too short, or the ring's length wrong; tested before 1 */
-#define OUINET_READER_BAD_HEAD 3      /* head text wrong, longer than 8,192 bytes, over 64 field lines, or a field twice that may come only once */
+#define OUINET_READER_BAD_HEAD 3      /* head text wrong, longer than 32,768 bytes, over 128 field lines, or a field twice that may come only once */
 #define OUINET_READER_HEAD_RULE 4     /* a rule of heads is broken, other than those of 3, 5, 16 and 12 */
 #define OUINET_READER_BAD_VERSION 5   /* the version is there, and is not 4 */
-#define OUINET_READER_BAD_FRAME 6     /* chunk line, end of data or trailer wrong or too long */
+#define OUINET_READER_BAD_FRAME 6     /* chunk line, end of data or trailer wrong, a line longer than 128 bytes, or a trailer longer than 32,768 */
 #define OUINET_READER_BAD_SIZE 7      /* a chunk's size is against the block rule */
 #define OUINET_READER_BAD_OUISIG 8    /* a block's signature is missing where it is due, or there where it is not */
 #define OUINET_READER_TOO_LONG 9      /* the body would pass 4,294,967,296 bytes */

@@ -94,7 +94,7 @@ expect 'a line end in a URI' no_uri $'show\r\nA: b' "--uri: \\r at offset 4 may 
 expect 'a line feed at the end of a URI' no_uri $'show\n' "--uri: \\n at offset 4 may not stand in a field's value"
 expect 'a control character in a URI' no_uri $'a\x1bb' "--uri: \\x1b at offset 1 may not stand in a field's value"
 expect 'a deletion in a URI' no_uri $'\x7f' "--uri: \\x7f at offset 0 may not stand in a field's value"
-expect 'a URI that is too long' no_uri "$(printf '%08000d' 0)" "the head has 8634 bytes, and 8192 are the most"
+expect 'a URI that is too long' no_uri "$(printf '%032500d' 0)" "the head has 33134 bytes, and 32768 are the most"
 sign key ring --type 'text/plain ' -o none 2>said
 expect 'a blank at the end of a value' test $? -eq 2 -a ! -e none -a "$(cat said)" = "oui-sign: --type: a field's value has no blanks at its ends"
 sign key ring --header $'Via: \xe9' -o none 2>said
@@ -117,10 +117,10 @@ for name in X-Ouinet-Foo x-ouinet- CONTENT-length Transfer-Encoding; do
     expect "$name" not_signed "--header: $name belongs to the format of signed streams and cannot be given" "$name: 5"
 done
 expect 'a type' not_signed '--header: content-TYPE is set by --type' 'content-TYPE: text/plain'
-expect 'a value that is too long' not_signed 'the head has 8677 bytes, and 8192 are the most' "Via: $(printf '%08000d' 0)" 'Via: x'
+expect 'a value that is too long' not_signed 'the head has 33177 bytes, and 32768 are the most' "Via: $(printf '%032500d' 0)" 'Via: x'
 fields=() names=()
-for i in $(seq 58); do fields+=("Via: $i") names+=("N$i: x"); done
-expect 'a field too many' not_signed 'the head has 65 fields, and 64 are the most' "${fields[@]}"
+for i in $(seq 122); do fields+=("Via: $i") names+=("N$i: x"); done
+expect 'a field too many' not_signed 'the head has 129 fields, and 128 are the most' "${fields[@]}"
 expect 'a name too many' not_signed 'the head has 33 signed names, and 32 are the most' "${names[@]:0:26}"
 
 # What is sent comes out
@@ -148,7 +148,7 @@ for most in 1 2 9 400; do
 done
 
 given=()
-for field in "${fields[@]:0:57}"; do given+=(--header "$field"); done
+for field in "${fields[@]:0:121}"; do given+=(--header "$field"); done
 sign key show --block-size 1000 "${given[@]}" | oui-relay --most 50 | fetch
 expect 'as many lines of a name as can be' ended 0 'closed: 3000 bytes in 3 blocks'
 
@@ -226,7 +226,7 @@ expect 'nothing comes out of that' test ! -s got
 # A size of 0: what follows is taken for the trailer
 oui-relay --change "$start" <stream | fetch
 expect 'changed in a size' test "$status" -eq 1
-expect 'in words' grep -q "^oui-fetch: refused 6: the trailer, from offset $((start + 7)) of the stream, has no end within 8,192 bytes; nothing" said
+expect 'in words' grep -q "^oui-fetch: refused 6: the trailer, from offset $((start + 7)) of the stream, has no end within 32,768 bytes; nothing" said
 expect 'nothing of its bytes comes out' test ! -s got
 
 # Where a text went wrong
@@ -274,14 +274,14 @@ expect 'a length twice' told \
     'Content-Length: 12\r\n' '^^^^^^^^^^^^^^'
 spoil '2s/$/\nVary: a\r\nDate: now\r\nvARY: b\r/'
 expect 'a field twice that is not signed' ended 0 'closed: 12 bytes in 3 blocks'
-many=$(for i in $(seq 60); do printf 'F%d:\\r\\n' "$i"; done)
+many=$(for i in $(seq 124); do printf 'F%d:\\r\\n' "$i"; done)
 spoil "2s/^/$many/"
-expect 'too many fields' told 'refused 3: the head has 67 fields, and 64 are the most; nothing was verified'
+expect 'too many fields' told 'refused 3: the head has 131 fields, and 128 are the most; nothing was verified'
 spoil "2s/^/${many}A b\\r\\n/"
-expect 'too many fields and a wrong line' grep -q '^oui-fetch: refused 3: the text of the head goes wrong at offset .* (line 62, column 2); ' said
-printf '<html>\n%09000d' 0 >stream
+expect 'too many fields and a wrong line' grep -q '^oui-fetch: refused 3: the text of the head goes wrong at offset .* (line 126, column 2); ' said
+printf '<html>\n%033000d' 0 >stream
 fetch stream
-expect 'no head at all' told 'refused 3: the head has no end within 8,192 bytes; nothing was verified' "<html>\n${long:0:64}..."
+expect 'no head at all' told 'refused 3: the head has no end within 32,768 bytes; nothing was verified' "<html>\n${long:0:64}..."
 
 spoil 's/^2;ouisig/2;Ouisig/'
 line=$(LC_ALL=C grep -a '^2;Ouisig' stream)
@@ -439,9 +439,9 @@ for length in 0 1 500; do
     head -c "$length" south.oui | fetch_any
     expect "$length bytes, if any" ended 1 "refused 11: the stream stops before its end; $none"
 done
-head -c 9000 /dev/zero | tr '\0' x | fetch_any
-expect 'no head, if any' test "$status" -eq 1 -a "$(head -n 1 said)" = "oui-fetch: refused 3: the head has no end within 8,192 bytes; $none"
-pad=$(printf '%07500d' 0)
+head -c 33000 /dev/zero | tr '\0' x | fetch_any
+expect 'no head, if any' test "$status" -eq 1 -a "$(head -n 1 said)" = "oui-fetch: refused 3: the head has no end within 32,768 bytes; $none"
+pad=$(printf '%031000d' 0)
 oui-sign sign key south --uri "$south" --block-size 1000 --header "Via: $pad" | LC_ALL=C sed '/^X-Ouinet-URI/{h;d};/^Via: 0/G' |
     oui-relay --most 3000 | fetch_any
 expect 'at the end of a long head' ended 0 "$good; $taken \`$south\`"
@@ -456,18 +456,43 @@ fetch strange.oui
 expect 'a stranger with another show' ended 1 'refused 16: this is another show'
 
 # As long a head as can be, by the length of its URI, and one that a blank makes too long
-pad=$((8192 - $(LC_ALL=C sed '/^\r/q' south.oui | wc -c)))
-asked=$south$(printf "%0${pad}d" 0)
-sign key south -o full.oui --block-size 1000 --id south --ts 1700000000
-expect 'a head of 8,192 bytes' test "$(LC_ALL=C sed '/^\r/q' full.oui | wc -c)" -eq 8192
-oui-relay --most 1 <full.oui | fetch_any
-expect 'it is read, if any' test "$status" -eq 0 -a "$(cat said)" = "oui-fetch: $good; $taken \`${asked:0:100}...\`"
-expect 'its show, if any' cmp -s south got
+own=$(LC_ALL=C sed '/^\r/q' south.oui | wc -c)
+for length in 8192 8193 32767 32768; do
+    asked=$south$(printf "%0$((length - own))d" 0)
+    sign key south -o full.oui --block-size 1000 --id south --ts 1700000000
+    expect "a head of $length bytes" test "$(LC_ALL=C sed '/^\r/q' full.oui | wc -c)" -eq "$length"
+    oui-relay --most 1 <full.oui | fetch_any
+    expect "$length bytes of head are read, if any" test "$status" -eq 0 -a "$(cat said)" = "oui-fetch: $good; $taken \`${asked:0:100}...\`"
+    expect "the show after $length bytes, if any" cmp -s south got
+    oui-relay --most 3000 <full.oui | fetch
+    expect "$length bytes of head are read" ended 0 "$good"
+done
 LC_ALL=C sed 's/^Transfer-Encoding:/& /' full.oui >stream
-expect 'a head of 8,193 bytes' test "$(LC_ALL=C sed '/^\r/q' stream | wc -c)" -eq 8193
+expect 'a head of 32,769 bytes' test "$(LC_ALL=C sed '/^\r/q' stream | wc -c)" -eq 32769
 oui-relay --most 1 <stream | fetch_any
 expect 'it is not read, if any' test "$status" -eq 1 -a ! -s got -a "$(head -n 1 said)" = \
-    "oui-fetch: refused 3: the head has no end within 8,192 bytes; $none"
+    "oui-fetch: refused 3: the head has no end within 32,768 bytes; $none"
+asked=${asked}0
+sign key south -o none --block-size 1000 --id south --ts 1700000000 2>said
+expect 'a byte too many is not signed' test $? -eq 2 -a ! -e none -a "$(cat said)" = 'oui-sign: the head has 32769 bytes, and 32768 are the most'
+
+# A trailer as long as can be, and one byte more
+asked=$south
+# with_trailer LENGTH: the southern stream with a trailer of so many bytes.
+with_trailer() {
+    head -c -2 south.oui
+    printf 'A:%0*d\r\n\r\n' $(($1 - 6)) 0
+}
+for length in 8193 32768; do
+    with_trailer "$length" | oui-relay --most 3000 | fetch
+    expect "a trailer of $length bytes" ended 0 "$good"
+done
+with_trailer 32769 >stream
+oui-relay --most 3000 <stream | fetch
+expect 'a trailer of 32,769 bytes' told \
+    "refused 6: the trailer, from offset $(offset '^A:0') of the stream, has no end within 32,768 bytes; the 5000 bytes before were verified" \
+    "A:$(printf '%070d' 0)..."
+expect 'the show before it' cmp -s south got
 asked='a`b\c'
 sign key south --block-size 1000 | fetch_any
 expect 'an odd URI, if any' ended 0 "$good; $taken \`a\\x60b\\\\c\`"

@@ -1,8 +1,8 @@
 /*
  * include/ouinet_reader.h and the library behind it, from C: the example stream of crates/ouiread/data goes through in pieces of one
  * size, and what is said must be the lines of crates/ouiread/stdout; then wrong texts, and the place that is told of each; then heads with repeated
- * fields; then URIs that were asked for and are not the head's; then the sizes that the header names, each beside one that is one byte short; then
- * forged states, in buffers that are longer than named and marked beyond.
+ * fields; then URIs that were asked for and are not the head's; then heads and trailers as long as they may be, and buffers as long as they had to be
+ * before request #108; then the sizes that the header names, each beside one that is one byte short; then forged states, in buffers that are longer than named and marked beyond.
  * tests/header.sh builds and runs it. Its last line is 'N passed, M failed'.
  */
 #include "ouinet_reader.h"
@@ -214,7 +214,7 @@ static void show(char *to, const char *text, size_t length) {
 
 /* A section behind so many bytes of the example: it is refused when all of it was taken, with this number, at this place. */
 static void refuse(const char *front, size_t front_length, const char *section, size_t length, size_t piece, unsigned refusal, uint64_t place) {
-    static uint8_t stream[16384];
+    static uint8_t stream[40000];
     size_t taken;
     char shown[96], what[160];
     memcpy(stream, front, front_length);
@@ -240,7 +240,7 @@ static void find_places(const char *stream, size_t piece) {
       lines[] = {{"\r\n", 0}, {"5 \r\n", 1}, {"5\r\r\n", 2}, {"000000005\r\n", 8}, {"5;OUISIG=\r\n", 2}, {"5;ouisig=\r\n", 9}},
       ends[] = {{"XY", 0}, {"\rX", 1}}, trailers[] = {{"\rA: b\r\n\r\n", 1}, {"A: b\r\nC d\r\n\r\n", 7}, {"A\r\n\r\n", 1}};
     size_t body = (size_t)(strstr(stream, "\r\n\r\n") - stream) + 4, i;
-    char front[4096], many[9000];
+    static char front[4096], many[32768];
     for (i = 0; i < sizeof heads / sizeof *heads; i++)
         refuse("", 0, heads[i].text, strlen(heads[i].text), piece, OUINET_READER_BAD_HEAD, heads[i].place);
     for (i = 0; i < sizeof lines / sizeof *lines; i++)
@@ -252,9 +252,9 @@ static void find_places(const char *stream, size_t piece) {
     for (i = 0; i < sizeof trailers / sizeof *trailers; i++)
         refuse(front, body + 3, trailers[i].text, strlen(trailers[i].text), piece, OUINET_READER_BAD_FRAME, trailers[i].place);
     memset(many, 'x', sizeof many);
-    refuse("", 0, many, 8192, piece, OUINET_READER_BAD_HEAD, 8192);
+    refuse("", 0, many, 32768, piece, OUINET_READER_BAD_HEAD, 32768);
     refuse(stream, body, many, 128, piece, OUINET_READER_BAD_FRAME, 128);
-    refuse(front, body + 3, many, 8192, piece, OUINET_READER_BAD_FRAME, 8192);
+    refuse(front, body + 3, many, 32768, piece, OUINET_READER_BAD_FRAME, 32768);
     memcpy(many + 126, "\r\n", 2);
     refuse(stream, body, many, 128, piece, OUINET_READER_BAD_FRAME, 0);
 }
@@ -319,9 +319,9 @@ static void count_lines(const char *stream, size_t piece) {
     expect("counting changes nothing", !memcmp(state, before, STATE) && !memcmp(head, text, length));
     expect("after the end it is the same", end() == OUINET_READER_REFUSED && line_count("vary") == 3);
     expect("a no hands nothing out", is_asked(text, length, piece) && answer(0) == OUINET_READER_REFUSED && line_count("vary") == 0);
-    length = head_with(text, stream, lines_of("Vary: x\r\n", 55), " vary");
-    expect("64 lines are counted", is_asked(text, length, piece) && answer(1) == OUINET_READER_HEAD && line_count("vary") == 55);
-    length = head_with(text, stream, lines_of("Vary: x\r\n", 56), " vary");
+    length = head_with(text, stream, lines_of("Vary: x\r\n", 119), " vary");
+    expect("128 lines are counted", is_asked(text, length, piece) && answer(1) == OUINET_READER_HEAD && line_count("vary") == 119);
+    length = head_with(text, stream, lines_of("Vary: x\r\n", 120), " vary");
     refuse("", 0, text, length, piece, OUINET_READER_BAD_HEAD, length);
     length = head_with(text, stream, "Vary: a\r\nVary: b\r\n", " vary VARY");
     refuse("", 0, text, length, piece, OUINET_READER_HEAD_RULE, 0);
@@ -338,11 +338,11 @@ static void forge_accepted(const char *stream, int lines) {
 
 /* Heads that were never judged: a good one is counted, and of one with too many lines nothing is handed out. */
 static void count_forged_lines(const char *stream) {
-    forge_accepted(stream, 55);
-    expect("a good head is counted with a forged state too", line_count("vary") == 55 && line_count("date") == 1 && line_count("age") == 0);
-    forge_accepted(stream, 56);
+    forge_accepted(stream, 119);
+    expect("a good head is counted with a forged state too", line_count("vary") == 119 && line_count("date") == 1 && line_count("age") == 0);
+    forge_accepted(stream, 120);
     expect("of one that is not good there is nothing to count", line_count("vary") == 0 && line_count("date") == 0);
-    forge_accepted(stream, 100);
+    forge_accepted(stream, 200);
     expect("however long it is", line_count("vary") == 0 && line_count("date") == 0);
 }
 
@@ -457,10 +457,118 @@ static int is_refused(uint8_t word, unsigned refusal) {
     return word == OUINET_READER_REFUSED && number(result + OUINET_READER_RESULT_FIRST) == refusal && (has_place || has_no_place());
 }
 
+/* ---- longer heads and trailers */
+
+enum { MOST = 32768, BEFORE = 8192, ROOM = MOST + 4096 };
+
+/* The example's head made so long by one more field. */
+static void head_of(char *to, const char *stream, size_t length) {
+    static char line[ROOM];
+    size_t lacking = length - head_with(to, stream, "Fill:\r\n", "");
+    memcpy(line, "Fill:", 5);
+    memset(line + 5, 'x', lacking);
+    memcpy(line + 5 + lacking, "\r\n", 3);
+    expect("a head of that length", head_with(to, stream, line, "") == length);
+}
+
+/* A trailer of so many bytes, and a few behind it. */
+static size_t trailer_of(char *to, size_t length) {
+    memcpy(to, "a:", 2);
+    memset(to + 2, 'x', length - 6);
+    memcpy(to + length - 4, "\r\n\r\nmore", 8);
+    return length + 4;
+}
+
+/* Whether a stream, all answers yes, is taken so far and then ends in this word with these numbers. */
+static int ends(const char *stream, size_t length, size_t piece, size_t taken, uint8_t word, uint64_t first, uint64_t second) {
+    return read_all((const uint8_t *)stream, length, piece) == taken && number(result + OUINET_READER_RESULT_WORD) == word &&
+           number(result + OUINET_READER_RESULT_FIRST) == first && number(result + OUINET_READER_RESULT_SECOND) == second;
+}
+
+/* Whether a head, an empty body behind it, is read to the end. */
+static int is_good_head(char *text, size_t length, size_t piece) {
+    memcpy(text + length, "0\r\n\r\nmore", 9);
+    return ends(text, length + 9, piece, length + 5, OUINET_READER_CLOSED, 0, 0);
+}
+
+static void read_longer(const char *stream, size_t piece) {
+    static const size_t good[] = {BEFORE, BEFORE + 1, MOST - 1, MOST}, bad[] = {MOST + 1, MOST + 1000};
+    static char text[ROOM + MOST];
+    size_t i, length, front;
+    for (i = 0; i < sizeof good / sizeof *good; i++) {
+        head_of(text, stream, good[i]);
+        expect("a head within the limit", is_good_head(text, good[i], piece));
+    }
+    for (i = 0; i < sizeof bad / sizeof *bad; i++) {
+        head_of(text, stream, bad[i]);
+        expect("one beyond it is refused there", ends(text, bad[i], piece, MOST, OUINET_READER_REFUSED, OUINET_READER_BAD_HEAD, MOST));
+    }
+    length = head_with(text, stream, lines_of("A: b\r\n", 65 - 9), "");
+    expect("65 fields", is_good_head(text, length, piece));
+    length = head_with(text, stream, lines_of("A: b\r\n", 128 - 9), "");
+    expect("128 fields", is_good_head(text, length, piece));
+    length = head_with(text, stream, lines_of("A: b\r\n", 129 - 9), "");
+    expect("129 fields", ends(text, length, piece, length, OUINET_READER_REFUSED, OUINET_READER_BAD_HEAD, length));
+    front = head_with(text, stream, "", "") + 3;
+    memcpy(text + front - 3, "0\r\n", 3);
+    for (i = 0; i < sizeof good / sizeof *good; i++) {
+        length = front + trailer_of(text + front, good[i]);
+        expect("a trailer within the limit", ends(text, length, piece, front + good[i], OUINET_READER_CLOSED, 0, 0));
+    }
+    for (i = 0; i < sizeof bad / sizeof *bad; i++) {
+        length = front + trailer_of(text + front, bad[i]);
+        expect("one beyond it", ends(text, length, piece, front + MOST, OUINET_READER_REFUSED, OUINET_READER_BAD_FRAME, MOST));
+    }
+}
+
+/* Each call with these lengths of head and question is refused with 2, and leaves state and buffers alone. */
+static void lend_less(size_t h, size_t q) {
+    enum { B = OUINET_READER_BLOCK_SIZE };
+    static uint8_t heads[MOST], questions[MOST];
+    uint8_t before[STATE];
+    memcpy(before, state, STATE);
+    memcpy(heads, head, MOST);
+    memcpy(questions, question, MOST);
+    expect("a feed", is_refused(feed_with(STATE, h, B, q, ring, RECORD, RESULT), OUINET_READER_NO_ROOM));
+    expect("takes nothing", number(result + OUINET_READER_RESULT_TAKEN) == 0);
+    expect("an answer", is_refused(ouinet_reader_answer(state, STATE, head, h, block, B, question, q, 1, result, RESULT), OUINET_READER_NO_ROOM));
+    expect("an end", is_refused(ouinet_reader_end(state, STATE, head, h, block, B, question, q, result, RESULT), OUINET_READER_NO_ROOM));
+    expect("the state stays", !memcmp(before, state, STATE));
+    expect("and so do the buffers", !memcmp(heads, head, MOST) && !memcmp(questions, question, MOST));
+}
+
+/* Buffers that were long enough before, and ones that are a byte too short: for calls, and for what is handed out. */
+static void lend_as_before(const char *stream) {
+    static const size_t less[] = {BEFORE - 1, BEFORE, BEFORE + 1, MOST - 1};
+    static char text[ROOM];
+    const uint8_t *type = (const uint8_t *)"content-type";
+    uint8_t value[64];
+    size_t i, time;
+    for (time = 0; time < 4; time++) {
+        head_of(text, stream, MOST);
+        ouinet_reader_fresh(state, STATE);
+        if (time > 0)
+            feed((const uint8_t *)text, time == 1 ? MOST / 2 : MOST);
+        if (time > 2)
+            expect("a head that fills its buffer", answer(1) == OUINET_READER_HEAD);
+        for (i = 0; i < sizeof less / sizeof *less; i++) {
+            lend_less(less[i], MOST);
+            lend_less(MOST, less[i]);
+            lend_less(less[i], less[i]);
+        }
+    }
+    for (i = 0; i < sizeof less / sizeof *less; i++) {
+        expect("no value of too short a buffer", ouinet_reader_value(state, STATE, head, less[i], type, 12, value, sizeof value) == 0);
+        expect("nor a line", ouinet_reader_value_count(state, STATE, head, less[i], type, 12) == 0);
+    }
+    expect("a value of it", ouinet_reader_value(state, STATE, head, MOST, type, 12, value, sizeof value) == strlen("text/plain"));
+    expect("and its line", ouinet_reader_value_count(state, STATE, head, MOST, type, 12) == 1);
+}
+
 /* Each size that the header names will do, and one byte less will not. */
 static void measure(void) {
-    enum { H = OUINET_READER_HEAD_SIZE, B = OUINET_READER_BLOCK_SIZE, Q = OUINET_READER_QUESTION_SIZE, MOST = OUINET_READER_RING_LIMIT * RECORD };
-    static uint8_t keys[MOST + RECORD];
+    enum { H = OUINET_READER_HEAD_SIZE, B = OUINET_READER_BLOCK_SIZE, Q = OUINET_READER_QUESTION_SIZE, KEYS = OUINET_READER_RING_LIMIT * RECORD };
+    static uint8_t keys[KEYS + RECORD];
     uint8_t before[STATE];
     expect("fresh, one byte short", ouinet_reader_fresh(state, STATE - 1) == OUINET_READER_SHORT);
     ouinet_reader_fresh(state, STATE);
@@ -475,9 +583,9 @@ static void measure(void) {
     expect("block, one byte short", is_refused(feed_with(STATE, H, B - 1, Q, keys, 0, RESULT), OUINET_READER_NO_ROOM));
     expect("question, one byte short", is_refused(feed_with(STATE, H, B, Q - 1, keys, 0, RESULT), OUINET_READER_NO_ROOM));
     expect("half a record", is_refused(feed_with(STATE, H, B, Q, keys, RECORD / 2, RESULT), OUINET_READER_NO_ROOM));
-    expect("a record too many", is_refused(feed_with(STATE, H, B, Q, keys, MOST + RECORD, RESULT), OUINET_READER_NO_ROOM));
+    expect("a record too many", is_refused(feed_with(STATE, H, B, Q, keys, KEYS + RECORD, RESULT), OUINET_READER_NO_ROOM));
     expect("the state is as it was", !memcmp(state, before, STATE));
-    expect("all records", feed_with(STATE, H, B, Q, keys, MOST, RESULT) == OUINET_READER_MORE);
+    expect("all records", feed_with(STATE, H, B, Q, keys, KEYS, RESULT) == OUINET_READER_MORE);
     expect("a byte is gathered", number(state + 8) == 1);
     memset(state, 0xff, STATE);
     expect("any bytes are a state: this one is over", is_refused(feed_with(STATE, H, B, Q, keys, 0, RESULT), OUINET_READER_NOT_DUE));
@@ -614,6 +722,8 @@ int main(int count, char **arguments) {
     ask_for_a_million(stream, own, piece);
     ask_in_order(stream, own, piece);
     ask_at_the_right_time(stream, length, own);
+    read_longer(stream, piece);
+    lend_as_before(stream);
     measure();
     defy_forged_calls(0xa5);
     ask_of_forged_block(0xa5, one);

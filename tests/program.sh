@@ -153,6 +153,8 @@ late 'one that ends' "$(times x 100)" "$(times x 101)" "...$(times x 40)" "...$(
 late '40 bytes alike' "$(times x 40)s" "$(times x 101)" "$(times x 40)s" "$(times x 100)..."
 late '41 bytes alike' "$(times x 41)s" "$(times x 101)" "...$(times x 40)s" "...$(times x 100)"
 late 'both ends cut' "$(times x 6000)s$(times y 59)" "$(times x 6000)n$(times y 60)" "...$(times x 40)s$(times y 59)" "...$(times x 40)n$(times y 59)..."
+zeros=$(printf '%030000d' 0)
+late 'ones that differ after 30,000 bytes' "${zeros}s" "${zeros}n" "...${zeros:0:40}s" "...${zeros:0:40}n"
 printf 'refused 16\ntally blocks 0 bytes 0 closed 0 refused 1\n' >counted
 printf north >asked
 bare stream ring nothing --tally --uri asked --where
@@ -208,8 +210,8 @@ went_wrong() {
 }
 printf 'HTTP/1.1 20\r\n\r\n' >wrong
 went_wrong 'a status of two digits' 0 '3 at 11'
-head -c 9000 /dev/zero | tr '\0' x >wrong
-went_wrong 'a head without its end' 0 '3 at 8192'
+head -c 33000 /dev/zero | tr '\0' x >wrong
+went_wrong 'a head without its end' 0 '3 at 32768'
 sed 's/^5\r$/000000005\r/' stream >wrong
 went_wrong 'a size of nine digits' 2 '6 at 8'
 sed 's/^Hello\r$/Hello\r\r/' stream >wrong
@@ -218,6 +220,57 @@ sed 's/^Digest:/Digest/' stream >wrong
 went_wrong 'a trailer without a colon' 8 '6 at 6'
 sed 's/^X-Ouinet-Version: 4/X-Ouinet-Version: 5/' stream >wrong
 went_wrong 'a refusal that has no place' 0 5
+
+# Heads and trailers as long as they may be, in pieces as they come and in single bytes
+echo 1 >ones
+# read_whole NAME: the stream in `long` gives the nine events.
+read_whole() {
+    run long ring answers
+    expect "$1" nine ''
+    run long ring answers ones
+    expect "$1, in single bytes" nine ''
+}
+# head_length FILE: how many bytes the head of a stream has.
+head_length() {
+    LC_ALL=C sed '/^\r/q' "$1" | wc -c
+}
+# with_head LENGTH: the example with a field more, which makes its head so long.
+with_head() {
+    sed "1s/\$/\nFill:$(printf "%0$(($1 - $(head_length stream) - 7))d" 0)\r/" stream
+}
+for length in 8192 8193 32767 32768; do
+    with_head "$length" >long
+    check "the head has $length bytes" test "$(head_length long)" -eq "$length"
+    read_whole "a head of $length bytes"
+done
+for length in 32769 40000; do
+    with_head "$length" >wrong
+    went_wrong "a head of $length bytes" 0 '3 at 32768'
+done
+# with_fields COUNT: the example, which has nine fields, with so many.
+with_fields() {
+    sed "1s/\$/$(for i in $(seq $(($1 - 9))); do printf '\\nF%d: x\\r' "$i"; done)/" stream
+}
+for count in 65 128; do
+    with_fields "$count" >long
+    read_whole "$count fields"
+done
+with_fields 129 >wrong
+went_wrong '129 fields' 0 "3 at $(head_length wrong)"
+# with_trailer TEXT..: the example with this trailer, by printf.
+with_trailer() {
+    sed '/^Digest:/,$d' stream
+    printf "$@"
+}
+for length in 8193 32768; do
+    with_trailer 'A:%0*d\r\n\r\n' $((length - 6)) 0 >long
+    read_whole "a trailer of $length bytes"
+done
+with_trailer 'A:%0*d\r\n\r\n' $((32769 - 6)) 0 >wrong
+went_wrong 'a trailer of 32,769 bytes' 8 '6 at 32768'
+{ with_trailer ''; for i in $(seq 200); do printf 'A: b\r\n'; done; printf '\r\n'; } >long
+read_whole 'a trailer of 200 fields'
+
 printf 'question 219\nrefused 10\ntally blocks 0 bytes 0 closed 0 refused 1\n' >counted
 run stream ring no --where --tally
 expect 'both options' counted ''

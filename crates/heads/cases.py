@@ -16,6 +16,9 @@ SIGNATURE = base64.b64encode(SIGNED.encode()).decode()
 ID = "qwertyuiop-12345"
 TIME = "1584748800"
 OK = "HTTP/1.1 200 OK"
+# the most that a head may have
+MOST_BYTES = 32768
+MOST_FIELDS = 128
 PSEUDO = ["(response-status)", "(created)"]
 OURS = ["x-Ouinet-version", "x-Ouinet-uri", "x-Ouinet-injection"]
 # what the program asks for
@@ -133,16 +136,19 @@ def good(label, fields=GOOD, status=OK, names=NAMES, created=TIME, size=5, key=1
 
 def limits():
     assert good("string-example") == 219
-    good("head-of-8192", padded(8192, GOOD))
-    refused(3, "head-of-8193", text(padded(8193, GOOD)))
-    refused(3, "head-of-8193-cut-at-8192", text(padded(8193, GOOD))[:8192])
-    refused(3, "8192-bytes-in-the-status-line", OK + " " * (8192 - len(OK)))
+    for length in (8192, 8193, MOST_BYTES):
+        good(f"head-of-{length}", padded(length, GOOD))
+    over = MOST_BYTES + 1
+    refused(3, f"head-of-{over}", text(padded(over, GOOD)))
+    refused(3, f"head-of-{over}-cut-at-{MOST_BYTES}", text(padded(over, GOOD))[:MOST_BYTES])
+    refused(3, f"{MOST_BYTES}-bytes-in-the-status-line", OK + " " * (MOST_BYTES - len(OK)))
     most = PSEUDO + OURS + [f"field-{i}" for i in range(27)]
-    full = padded(8192, listing(most, numbered(54)))
-    assert len(full) == 64 and len(most) == 32
+    full = padded(MOST_BYTES, listing(most, numbered(MOST_FIELDS - 10)))
+    assert len(full) == MOST_FIELDS and len(most) == 32
     good("all-limits-at-once", full, names=most)
-    good("64-fields", GOOD + numbered(55))
-    broken(3, "65-fields", GOOD + numbered(56))
+    for count in (64, 65, MOST_FIELDS):
+        good(f"{count}-fields", GOOD + numbered(count - len(GOOD)))
+    broken(3, f"{MOST_FIELDS + 1}-fields", GOOD + numbered(MOST_FIELDS + 1 - len(GOOD)))
     good("32-names", listing(most, numbered(27)), names=most)
     broken(4, "33-names", listing(most + ["date"], numbered(27)))
 
@@ -232,10 +238,12 @@ def repetitions():
     names = PSEUDO + ["VIA"] + OURS + ["vARY"]
     good("string-repeated-in-turn", listing(names, [("Vary", "a"), ("Via", "2"), ("vary", "c"), ("VIA", "1"), ("VARY", "b")]), names=names)
     names = NAMES + ["padding"]
-    full = padded(8192, listing(names, [("Padding", "")] * 54))
-    assert len(full) == 64
-    good("64-fields-of-which-55-have-one-name", full, names=names)
-    broken(3, "65-fields-of-which-56-have-one-name", listing(names, [("Padding", "")] * 56))
+    ours = len(GOOD)
+    full = padded(MOST_BYTES, listing(names, [("Padding", "")] * (MOST_FIELDS - ours - 1)))
+    assert len(full) == MOST_FIELDS
+    good(f"{MOST_FIELDS}-fields-of-which-{MOST_FIELDS - ours}-have-one-name", full, names=names)
+    over = MOST_FIELDS + 1
+    broken(3, f"{over}-fields-of-which-{over - ours}-have-one-name", listing(names, [("Padding", "")] * (over - ours)))
     broken(4, "repeated-and-listed-twice", listing(NAMES + ["vary", "vary"], [("Vary", "a"), ("Vary", "b")]))
     broken(4, "repeated-and-listed-twice-in-other-case", listing(NAMES + ["vary", "VARY"], [("Vary", "a"), ("Vary", "b")]))
 
@@ -461,13 +469,14 @@ def order():
     twice = [("X-Ouinet-A", "x"), ("X-Ouinet-A", "x")]
     broken(3, "order-protected-twice-and-version", old + twice)
     broken(5, "order-repeated-and-version", old + [("Date", "x")])
-    broken(3, "order-65-fields-and-version", old + numbered(56))
+    many = numbered(MOST_FIELDS + 1 - len(GOOD))
+    broken(3, f"order-{MOST_FIELDS + 1}-fields-and-version", old + many)
     broken(3, "order-protected-twice-and-version-absent", without("X-Ouinet-Version") + twice)
     broken(4, "order-repeated-and-version-absent", without("X-Ouinet-Version") + [("Date", "x")])
-    broken(3, "order-text-after-65-fields", GOOD + numbered(56) + [("Server ", "x")])
+    broken(3, f"order-text-after-{MOST_FIELDS + 1}-fields", GOOD + many + [("Server ", "x")])
     broken(3, "order-text-after-protected-twice", GOOD + twice + [("Server ", "x")])
     broken(3, "order-text-after-repeated", GOOD + [("Date", "x"), ("Server ", "x")])
-    broken(3, "order-65-fields-and-protected-twice", GOOD + numbered(54) + twice)
+    broken(3, f"order-{MOST_FIELDS + 1}-fields-and-protected-twice", GOOD + many[2:] + twice)
     broken(3, "order-last-field-and-status", GOOD + [("Server ", "x")], "HTTP/1.1 404 Not Found")
     broken(3, "order-status-line-and-trust", signed_by(STRANGE, TIME), "HTTP/1.0 200 OK")
     broken(4, "order-version-absent-and-trust", [f for f in signed_by(STRANGE, TIME) if f[0] != "X-Ouinet-Version"])
@@ -484,7 +493,7 @@ for part in (limits, text_rules, repetitions, plain_rules, injections, block_sig
 labels = [label for label, _, _ in CASES]
 assert len(set(labels)) == len(labels) and not any(" " in label for label in labels)
 # the program reads no more
-assert sum(len(f"{label} {len(head)}\n{head}") for label, head, _ in CASES) <= 300000
+assert sum(len(f"{label} {len(head)}\n{head}") for label, head, _ in CASES) <= 600000
 with open("stdin", "wb") as cases, open("stdout", "wb") as lines:
     for label, head, line in CASES:
         cases.write(f"{label} {len(head)}\n{head}".encode("latin-1"))

@@ -8,7 +8,8 @@ use Rattle.ring.specs.declared.KeyRing.{KeyRing}
 use Rattle.sections.specs.Calls.{Request, feed, answer, end}
 use Rattle.stream.specs.Limits.{headLimit, blockLimit, ringLimit}
 
--- "head hold (at least 8,192 bytes), block hold (at least 65,536), question hold (at least 8,192)"
+-- "head hold (at least 8,192 bytes), block hold (at least 65,536), question hold (at least 8,192)"; request #108: "head and question holds to
+-- 32,768"
 unfoldable pub haveRoom : List ℕ → List ℕ → List ℕ → Bool
 haveRoom h b q = leb headLimit (length h) && (leb blockLimit (length b) && leb headLimit (length q))
 

@@ -1,6 +1,5 @@
 -- WITHIN, the statements: what the exported calls (crate reader_export) keep to for every bytes that they are lent. Nothing is asked
--- of the state: it may be forged. Paper 01, "How a sitting goes": "head hold (at least 8,192 bytes), block hold (at least 65,536),
--- question hold (at least 8,192)". Assumes nothing.
+-- of the state: it may be forged. The bytes that a hold has at least are named in stream's Limits. Assumes nothing.
 use mathlib.Core.List.{List}
 use mathlib.Core.Path.{_≡_}
 use Prim.Native.Nat.{ℕ, _≤_}

@@ -42,7 +42,8 @@ abbrev pub given : ℕ → Next → Response
 given taken (on d) = telling W.More taken d
 given taken (stop w signature d) = response w taken signature d
 
--- "head hold (at least 8,192 bytes), block hold (at least 65,536), question hold (at least 8,192)"
+-- "head hold (at least 8,192 bytes), block hold (at least 65,536), question hold (at least 8,192)"; request #108: "head and question holds to
+-- 32,768"
 unfoldable pub areRoomy : ℕ → ℕ → ℕ → Bool
 areRoomy head block question = leb headLimit head && (leb blockLimit block && leb headLimit question)
 

@@ -62,7 +62,7 @@ module _ (terms : Terms) (S : List ℕ) (answers : List Bool) (told : Bool) (at 
 
 -- ---- of a run
 
-begins-told : {l m : Log Question Release LastWord} → Begins l m → Begins (toldLog l) (toldLog m)
+pub begins-told : {l m : Log Question Release LastWord} → Begins l m → Begins (toldLog l) (toldLog m)
 begins-told {l} s = record { rest = toldLog (s .rest); joined = sym (log-append l (s .rest)) ∙ ap toldLog (s .joined) }
 
 module _ (keys : KeyRing) (uri h b q : List ℕ) (ks : List Invocation) where

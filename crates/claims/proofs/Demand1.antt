@@ -4,23 +4,26 @@ use mathlib.Core.Bool.{Bool, true, false, _&&_}
 use mathlib.Core.List.{List}
 use Prim.Native.Nat.{ℕ}
 use borrow.Author.Tests.{lt-leb}
+use lib.Dec.{leb}
 use lib.ListN.{length}
 use Rattle.ring.specs.declared.KeyRecord.{KeyRecord}
 use Rattle.ring.specs.declared.KeyRing.{KeyRing}
 use Rattle.sections.specs.Calls.{Request, feed}
 use Rattle.stream.specs.Fields.{valueOf, valuesOf}
-use Rattle.stream.specs.Limits.{blockLimit, ringLimit}
+use Rattle.stream.specs.Limits.{headLimit, blockLimit, ringLimit}
 use Rattle.handing.specs.Released.{blockPart}
 use Rattle.handing.proofs.ValueLaws.{handed-short}
 use Rattle.lent.specs.Table.{keysOf}
 use Rattle.state.specs.Configuration.{Configuration}
-use Rattle.agreement.specs.Loans.{haveRoom}
+use Rattle.calls.specs.Response.{unchanged}
+use Rattle.agreement.specs.Loans.{haveRoom, loanFits}
+use Rattle.agreement.specs.Run.{called}
 use Rattle.agreement.proofs.Lists.{misfit-unchanged}
 use Rattle.agreement.proofs.Misuse.{undue-unchanged, due-fine}
 use Rattle.agreement.proofs.Taking.{feed-takes}
 use Rattle.agreement.proofs.TermsUse.{terms-unread, terms-unread-yet}
 use Rattle.agreement.proofs.Signatures.{unsigned-call}
-use Rattle.claims.specs.Demand1.{RefusalsChangeNothing, TakesSome, TermsNotRead, TermsNotReadYet, OnlyQuestionsSigned, LentRefusalsChangeNothing, SeventeenRefused, ShortBlock, ShortHead}
+use Rattle.claims.specs.Demand1.{RefusalsChangeNothing, TakesSome, TermsNotRead, TermsNotReadYet, OnlyQuestionsSigned, LentRefusalsChangeNothing, SeventeenRefused, ShortRefused, ShortBlock, ShortHead}
 use Rattle.claims.proofs.LentCalls.{called-lent, loan-lent}
 
 pub demand-1 : (keys : KeyRing) (uri : List ℕ) (d : Configuration) (r : Request) → RefusalsChangeNothing keys uri d r
@@ -62,6 +65,22 @@ pub seventeen-refused : SeventeenRefused
 seventeen-refused records uri d piece m =
     lent-demand-1 records uri d (feed piece) .two
     (rw (lt-leb (length records) ringLimit m) (none-fits (haveRoom (d .head) (d .block) (d .question))))
+
+-- one test of three that fails
+module _ (keys : KeyRing) (uri : List ℕ) (d : Configuration) (r : Request) where
+  unfit : leb headLimit (length (d .head)) && (leb blockLimit (length (d .block)) && leb headLimit (length (d .question))) ≡ false → called keys uri d r ≡ unchanged 2 d
+  unfolding haveRoom loanFits
+  unfit e = demand-1 keys uri d r .two (rw e)
+
+  pub short-refused : ShortRefused keys uri d r
+  short-refused =
+      record {
+        head = λ h. unfit (rw (lt-leb headLimit (length (d .head)) h));
+        block = λ h. unfit (rw (lt-leb blockLimit (length (d .block)) h) (none-fits (leb headLimit (length (d .head)))));
+        question = λ h.
+            unfit
+            (rw (lt-leb headLimit (length (d .question)) h, none-fits (leb blockLimit (length (d .block)))) (none-fits (leb headLimit (length (d .head)))));
+      }
 
 pub short-block : ShortBlock
 unfolding blockPart

@@ -67,7 +67,13 @@ SeventeenRefused =
     (records : List KeyRecord) (uri : List ℕ) (d : Configuration) (piece : List ℕ) → ringLimit < length records
     → lentCalled records uri d (feed piece) ≡ unchanged 2 d
 
--- Too short a buffer hands out nothing, whatever the reader.
+-- A buffer that is too short will do for no call, whatever the others are.
+pub record ShortRefused (keys : KeyRing) (uri : List ℕ) (d : Configuration) (r : Request) : Type 0 where
+  pub head : length (d .head) < headLimit → called keys uri d r ≡ unchanged 2 d
+  pub block : length (d .block) < blockLimit → called keys uri d r ≡ unchanged 2 d
+  pub question : length (d .question) < headLimit → called keys uri d r ≡ unchanged 2 d
+
+-- And it hands out nothing, whatever the reader.
 abbrev pub ShortBlock : Type 0
 ShortBlock = (d : Configuration) → length (d .block) < blockLimit → blockSeen d ≡ []
 

@@ -25,7 +25,7 @@ pub record EndsFirst (ends : List ℕ → Bool) (l : List ℕ) : Type 0 where
   pub there : ends l ≡ true
   pub earlier : (n : ℕ) → n < length l → ends (take n l) ≡ false
 
--- A good head ends within 8,192 bytes, keeps every rule of its text, and is what the caller's terms ask for: its URI is the asked one, and its
+-- A good head ends within its limit, keeps every rule of its text, and is what the caller's terms ask for: its URI is the asked one, and its
 -- key is trusted.
 pub record GoodHead (terms : Terms) (l : List ℕ) : Type 0 where
   pub ends : EndsFirst endsHead l
@@ -66,7 +66,7 @@ pub data Good (terms : Terms) : Beginning → Type 0 where
   goes-on : {w : Beginning} {b l : List ℕ} → Good terms w → Announced w b → GoodNextLine (size w) (length (body w ++ b)) b l
       → Good terms (onward w b l)
 
--- A good trailer ends within 8,192 bytes, and all that it holds are field lines.
+-- A good trailer ends within its limit, and all that it holds are field lines.
 pub record GoodTrailer (t : List ℕ) : Type 0 where
   pub ends : EndsFirst endsTrailer t
   pub short : length t ≤ headLimit

@@ -10,6 +10,7 @@ use borrow.Author.Tests.{eqb-true, eqb-false}
 use lib.Dec.{eqb}
 use lib.ListN.{length, getD, set, replicate}
 use lib.Seq.{getD-set-same, getD-set-other}
+use Rattle.stream.specs.Limits.{fieldLimit}
 use Rattle.places.specs.Place.{partOf}
 use Rattle.places.proofs.PlaceLaws.{part-moved, part-length}
 use Rattle.field_lines.specs.Entries.{noEntry, entryField, Within}
@@ -42,10 +43,10 @@ from-last text es i (suc k) =
 pub from-more : (text : List ℕ) (es : List Entry) (e : Entry) (k : ℕ) → k < length es → fieldsFrom text (set es k e) 0 (k + 1) ≡ fieldsFrom text es 0 k ++ (entryField text e ∷ [])
 from-more text es e k h = rw (add-one k, from-last text (set es k e) 0 k, from-set text es e k 0 k (omega arith), zero-add k, getD-set-same es k e noEntry h)
 
-pub in-from : (text : List ℕ) (f : Fields) → f .count ≤ 64 → fieldsIn text f ≡ fieldsFrom text (f .entries) 0 (f .count)
+pub in-from : (text : List ℕ) (f : Fields) → f .count ≤ fieldLimit → fieldsIn text f ≡ fieldsFrom text (f .entries) 0 (f .count)
 unfolding fieldsIn
 in-from text f h =
-    let e : min (f .count) 64 ≡ f .count = omega arith in
+    let e : min (f .count) fieldLimit ≡ f .count = omega arith in
     rw e
 
 -- ---- entries within a text

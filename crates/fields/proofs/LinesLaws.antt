@@ -32,18 +32,18 @@ pub read-all : (ls : List (List ℕ)) → answer (areFieldLines ls && leb (lengt
 unfolding readOn
 read-all ls = rw (zero-add (length ls))
 
-pub read-end : (fs : List Field) → length fs ≤ 64 → readOn fs [] ≡ answer true fs
+pub read-end : (fs : List Field) → length fs ≤ fieldLimit → readOn fs [] ≡ answer true fs
 unfolding readOn areFieldLines fieldsOf
-read-end fs h = rw (add-zero (length fs), le-leb (length fs) 64 h, append-nil fs)
+read-end fs h = rw (add-zero (length fs), le-leb (length fs) fieldLimit h, append-nil fs)
 
 module _ (fs : List Field) (l : List ℕ) (ls : List (List ℕ)) where
   read-bad : (x : List Field) → isFieldLine l ≡ false → readOn fs (l ∷ ls) ≡ answer false x
   unfolding readOn areFieldLines answer
   read-bad x e = rw e
 
-  read-over : (x : List Field) → 64 ≤ length fs → readOn fs (l ∷ ls) ≡ answer false x
+  read-over : (x : List Field) → fieldLimit ≤ length fs → readOn fs (l ∷ ls) ≡ answer false x
   unfolding readOn answer
-  read-over x h = rw (lt-leb (length fs + suc (length ls)) 64 (omega arith), both-false (areFieldLines (l ∷ ls)))
+  read-over x h = rw (lt-leb (length fs + suc (length ls)) fieldLimit (omega arith), both-false (areFieldLines (l ∷ ls)))
 
   read-next : isFieldLine l ≡ true → readOn fs (l ∷ ls) ≡ readOn (fs ++ (fieldOf l ∷ [])) ls
   unfolding readOn areFieldLines fieldsOf
@@ -57,19 +57,19 @@ module _ (s : List ℕ) (i e : ℕ) (b : i < length s) (f : e ≡ i + lineLength
   unfolding partOf
   first-is = text-first s i e b f h
 
-  pub turn-bad : (gs : List Field) → (not (r .good) || eqb k 64) ≡ true → readOn (fieldsFrom s es 0 k) (textLines (drop i s)) ≡ answer false gs
+  pub turn-bad : (gs : List Field) → (not (r .good) || eqb k fieldLimit) ≡ true → readOn (fieldsFrom s es 0 k) (textLines (drop i s)) ≡ answer false gs
   turn-bad gs t = rw first-is (go (r .good) (line-good x) t)
     where
-      go : (g : Bool) → g ≡ isFieldLine (partOf s i e) → (not g || eqb k 64) ≡ true → readOn (fieldsFrom s es 0 k) (partOf s i e ∷ textLines (drop (e + 2) s)) ≡ answer false gs
-      go true q u = read-over (fieldsFrom s es 0 k) (partOf s i e) (textLines (drop (e + 2) s)) gs (omega (arith, eqb-true k 64 u, from-length s es 0 k))
+      go : (g : Bool) → g ≡ isFieldLine (partOf s i e) → (not g || eqb k fieldLimit) ≡ true → readOn (fieldsFrom s es 0 k) (partOf s i e ∷ textLines (drop (e + 2) s)) ≡ answer false gs
+      go true q u = read-over (fieldsFrom s es 0 k) (partOf s i e) (textLines (drop (e + 2) s)) gs (omega (arith, eqb-true k fieldLimit u, from-length s es 0 k))
       go false q u = read-bad (fieldsFrom s es 0 k) (partOf s i e) (textLines (drop (e + 2) s)) gs (sym q)
 
-  module _ (t : (not (r .good) || eqb k 64) ≡ false) where
+  module _ (t : (not (r .good) || eqb k fieldLimit) ≡ false) where
     good : r .good ≡ true
-    good = not-false (r .good) (left-fails (not (r .good)) (eqb k 64) t)
+    good = not-false (r .good) (left-fails (not (r .good)) (eqb k fieldLimit) t)
 
-    pub turn-room : k ≤ 64 → k < 64
-    turn-room j = omega (arith, eqb-false k 64 (right-fails (not (r .good)) (eqb k 64) t))
+    pub turn-room : k ≤ fieldLimit → k < fieldLimit
+    turn-room j = omega (arith, eqb-false k fieldLimit (right-fails (not (r .good)) (eqb k fieldLimit) t))
 
     pub turn-on : k < length es → readOn (fieldsFrom s es 0 k) (textLines (drop i s)) ≡ readOn (fieldsFrom s (set es k (r .entry)) 0 (k + 1)) (textLines (drop (e + 2) s))
     turn-on j = rw (first-is, from-more s es (r .entry) k j, line-field x good) (read-next (fieldsFrom s es 0 k) (partOf s i e) (textLines (drop (e + 2) s)) (sym (line-good x) ∙ good))

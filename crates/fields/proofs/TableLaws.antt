@@ -8,6 +8,7 @@ use native.Mathlib.Omega.{arith}
 use lib.ListN.{getD}
 use Rattle.stream.specs.Bytes.{sameName}
 use Rattle.stream.specs.Fields.{among, isProtected, isProtectedDoubled, namesOf, valuesOf}
+use Rattle.stream.specs.Limits.{fieldLimit}
 use Rattle.text.proofs.SameLaws.{both-false}
 use Rattle.field_lines.specs.Entries.{entryName, entryValue, entryField, noEntry}
 use Rattle.field_lines.specs.declared.entry.Entry.{Entry}
@@ -26,7 +27,7 @@ namesFrom text es n i = namesOf (fieldsFrom text es i (n - i))
 abbrev pub valuesFrom : List ℕ → List ℕ → List Entry → ℕ → ℕ → List (List ℕ)
 valuesFrom name text es n i = valuesOf name (fieldsFrom text es i (n - i))
 
-pub all-from : (text : List ℕ) (f : Fields) (n : ℕ) → n ≡ min (f .count) 64 → fieldsIn text f ≡ fieldsFrom text (f .entries) 0 (n - 0)
+pub all-from : (text : List ℕ) (f : Fields) (n : ℕ) → n ≡ min (f .count) fieldLimit → fieldsIn text f ≡ fieldsFrom text (f .entries) 0 (n - 0)
 unfolding fieldsIn
 all-from text f n e = rw (e, sub-zero)
 

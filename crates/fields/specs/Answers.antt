@@ -29,7 +29,7 @@ FindsValue text f name v = Finds text (hasField name (fieldsIn text f)) (valueOf
 
 -- ---- lines read as the fields of a head
 
--- the table's fields, against what the lines say: "at most 64 fields", each a field line
+-- the table's fields, against what the lines say: no more than a head may have, each a field line
 pub record ReadsFields (text : List ℕ) (lines : List (List ℕ)) (r : FieldsRead) : Type 0 where
   pub meaning : answer (r .good) (fieldsIn text (r .fields)) ≡ answer (areFieldLines lines && leb (length lines) fieldLimit) (fieldsOf lines)
   pub within : (i : ℕ) → Within (length text) (getD (r .fields .entries) i noEntry)

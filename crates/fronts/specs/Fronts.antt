@@ -1,5 +1,5 @@
--- The reader's calls on the first part of each buffer (paper 01, "How a sitting goes": "head hold (at least 8,192 bytes), block hold (at
--- least 65,536), question hold (at least 8,192)"), with the rest of each put back behind. Assumes nothing.
+-- The reader's calls on the first part of each buffer, as long as a hold has to be at least (stream: Limits), with the rest of each put back
+-- behind. Assumes nothing.
 use mathlib.Core.Bool.{Bool}
 use mathlib.Core.List.{List, _++_}
 use Prim.Native.Nat.{ℕ}

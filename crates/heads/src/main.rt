@@ -11,10 +11,10 @@ fn read(input: &mut [u8]) {
 }
 
 // Lent as an array, the input needs no count of its bytes in the proof.
-fn read_array(input: &mut [u8; 300000]) {
+fn read_array(input: &mut [u8; 600000]) {
     read(input);
 }
 
 fn main() {
-    read_array(&mut [0; 300000]);
+    read_array(&mut [0; 600000]);
 }

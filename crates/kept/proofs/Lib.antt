@@ -6,3 +6,5 @@ pub mod SameEvents
 pub mod SameShow
 pub mod OtherShow
 pub mod AskedExample
+pub mod Further
+pub mod Limits

@@ -2,20 +2,28 @@
 use mathlib.Core.Bool.{Bool, true, false}
 use mathlib.Core.List.{List, [], _∷_}
 use mathlib.Core.Path.{_≡_}
-use Prim.Native.Nat.{ℕ}
+use Prim.Native.Nat.{ℕ, _-_, _≤_, _<_}
 use lib.Dec.{eqb}
+use lib.ListN.{length, take}
 use Rattle.sections.specs.Reading.{question, message, last, Log}
+use Rattle.sections.specs.Resuming.{Begins}
 use Rattle.stream.specs.Events.{Question, Release, LastWord, closed, refused}
+use Rattle.stream.specs.Limits.{headLimit, fieldLimit}
 use Rattle.stream.specs.Stream.{plainReading}
 use Rattle.stream.specs.Terms.{Terms}
 use Rattle.exactness.specs.AskedFor.{uriOf}
 use Rattle.exactness.specs.Telling.{StreamEvent, Stands}
 use Rattle.kept.specs.Older.{olderReading}
+use Rattle.kept.specs.OtherLimits.{SectionLimits, theseLimits, readingUnder}
 use Rattle.kept.specs.Unasked.{unaskedReading}
 
 -- the reading does not end in that refusal, at whatever place
 abbrev pub NeverRefused : ℕ → Log Question Release LastWord → Type 0
 NeverRefused n log = (place at : ℕ) → Stands (place, last (refused n at)) log → ⊥
+
+-- nor in that refusal with that place, where the text went wrong
+abbrev pub NeverRefusedAt : ℕ → ℕ → Log Question Release LastWord → Type 0
+NeverRefusedAt n at log = (place : ℕ) → Stands (place, last (refused n at)) log → ⊥
 
 -- Request #102: what the older rules do not refuse with 3, a good stream above all, gives the same events as before.
 abbrev pub SameEvents : Type 0
@@ -49,3 +57,26 @@ abbrev pub RefusedWhereNot : Type 0
 RefusedWhereNot =
     (terms : Terms) (stream : List ℕ) (answers : List Bool) (told : Bool) → (uriOf stream ≡ terms .uri → ⊥)
     → plainReading terms stream answers told ≡ asAnotherShow (unaskedReading (terms .ring) stream answers told)
+
+-- ---- request #108
+
+-- The reading under the limits of now is the plain reading.
+abbrev pub UnderThese : Type 0
+UnderThese = (terms : Terms) (stream : List ℕ) (answers : List Bool) (told : Bool) → readingUnder theseLimits terms stream answers told ≡ plainReading terms stream answers told
+
+-- Whatever limits there are, if they are no higher. What they do not refuse with 3, nor with 6 at the place that is a trailer's limit, gives the
+-- same events: a good stream above all.
+abbrev pub SameUnder : Type 0
+SameUnder =
+    (limits : SectionLimits) → 0 < limits .bytes → limits .bytes ≤ headLimit → limits .fields ≤ fieldLimit
+    → (terms : Terms) (stream : List ℕ) (answers : List Bool) (told : Bool)
+    → NeverRefused 3 (readingUnder limits terms stream answers told) → NeverRefusedAt 6 (limits .bytes) (readingUnder limits terms stream answers told)
+    → plainReading terms stream answers told ≡ readingUnder limits terms stream answers told
+
+-- And of any stream, all events that they gave but the last one are the first events of now: where they refused, more may be read.
+abbrev pub NoneLost : Type 0
+NoneLost =
+    (limits : SectionLimits) → 0 < limits .bytes → limits .bytes ≤ headLimit → limits .fields ≤ fieldLimit
+    → (terms : Terms) (stream : List ℕ) (answers : List Bool) (told : Bool)
+    → Begins (take (length (readingUnder limits terms stream answers told) - 1) (readingUnder limits terms stream answers told))
+    (plainReading terms stream answers told)

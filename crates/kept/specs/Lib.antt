@@ -1,4 +1,5 @@
 pub mod OtherHeads
 pub mod Older
 pub mod Unasked
+pub mod OtherLimits
 pub mod Kept

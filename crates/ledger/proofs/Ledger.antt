@@ -47,7 +47,7 @@ broken i (r ∷ rs) = elim (same (r .got) (r .due)) [ true ↦ broken (suc i) rs
 
 -- ---- what is compared, as numbers
 
-abbrev asNumber : Bool → ℕ
+abbrev pub asNumber : Bool → ℕ
 asNumber true = 1
 asNumber false = 0
 
@@ -80,7 +80,7 @@ released ((at, last l) ∷ log) = released log
 
 -- ---- heads: the example's lines, some of them changed
 
-abbrev asLines : List (List ℕ) → List ℕ
+abbrev pub asLines : List (List ℕ) → List ℕ
 asLines [] = octets "\r\n"
 asLines (l ∷ ls) = l ++ (octets "\r\n" ++ asLines ls)
 
@@ -102,7 +102,7 @@ middle = octets ",algorithm=\"hs2019\",created=1584748800, "
 abbrev names : List ℕ
 names = octets "(response-status) (created) x-Ouinet-version x-Ouinet-uri x-Ouinet-injection date content-type"
 
-abbrev headLines : List (List ℕ)
+abbrev pub headLines : List (List ℕ)
 headLines =
     octets "HTTP/1.1 200 OK"
     ∷ octets "X-Ouinet-Version: 4"
@@ -183,15 +183,15 @@ sig0Faults [] = []
 sig0Faults (s ∷ ss) = fault (put sig0s (sig0 key (octets s) names signature) headLines) ++ sig0Faults ss
 
 -- a head of n bytes
-abbrev longHead : ℕ → List ℕ
+abbrev pub longHead : ℕ → List ℕ
 longHead n = asLines (put type (octets "Content-Type: " ++ replicate (n - 643) 97) headLines)
 
 -- so many more field lines, each of its own name; the list of names with so many of them
-abbrev extraNames : ℕ → List (List ℕ)
+abbrev pub extraNames : ℕ → List (List ℕ)
 extraNames zero = []
 extraNames (suc n) = (octets "x" ++ decimal n) ∷ extraNames n
 
-abbrev extraLines : List (List ℕ) → List (List ℕ)
+abbrev pub extraLines : List (List ℕ) → List (List ℕ)
 extraLines [] = []
 extraLines (n ∷ ns) = (n ++ octets ":") ∷ extraLines ns
 
@@ -264,13 +264,13 @@ hexBytes (a ∷ b ∷ l) = hexValue (a ∷ b ∷ []) ∷ hexBytes l
 pub headTexts : List Row
 headTexts =
     -- sections and their ends
-    row 1 "a head of just 8,192 bytes is good"
-    (length (longHead 8_192) ∷ asNumber (isWholeHead (take 8_191 (longHead 8_192))) ∷ headFault terms (longHead 8_192) ∷ [])
-    (8_192 ∷ 0 ∷ 0 ∷ [])
-    ∷ row 1 "without its end it is whole at 8,192 bytes, and is 3"
-    (asNumber (isWholeHead (take 8_191 (longHead 8_193)))
-    ∷ asNumber (isWholeHead (take 8_192 (longHead 8_193)))
-    ∷ headFault terms (take 8_192 (longHead 8_193))
+    row 1 "a head of just 32,768 bytes is good"
+    (length (longHead 32_768) ∷ asNumber (isWholeHead (take 32_767 (longHead 32_768))) ∷ headFault terms (longHead 32_768) ∷ [])
+    (32_768 ∷ 0 ∷ 0 ∷ [])
+    ∷ row 1 "without its end it is whole at 32,768 bytes, and is 3"
+    (asNumber (isWholeHead (take 32_767 (longHead 32_769)))
+    ∷ asNumber (isWholeHead (take 32_768 (longHead 32_769)))
+    ∷ headFault terms (take 32_768 (longHead 32_769))
     ∷ [])
     (0 ∷ 1 ∷ 3 ∷ [])
     ∷ row 1 "a bad byte changes nothing until the end has come, which is at the first empty line"
@@ -302,14 +302,14 @@ headTexts =
     ∷ row 5 "else it goes on to CR LF CR LF"
     (trailers ("A: b\r\n" ∷ "A: b\r\n\r\n" ∷ "A:\r\na:\r\n\r\nX" ∷ "\rA: b\r\n" ∷ "\rA: b\r\n\r\n" ∷ "\n\r\n\r\n" ∷ "A\r\n\r\n" ∷ " A: b\r\n\r\n" ∷ ": b\r\n\r\n" ∷ []))
     (8 ∷ 4 ∷ 5 ∷ 10 ∷ 4 ∷ 5 ∷ 9 ∷ 5 ∷ 6 ∷ 5 ∷ 5 ∷ 6 ∷ 5 ∷ 5 ∷ 6 ∷ 9 ∷ 5 ∷ 6 ∷ 7 ∷ 5 ∷ 6 ∷ [])
-    ∷ row 5 "a trailer of 8,192 bytes is good; without its end it is whole there, and is 6"
-    (asNumber (isTrailer (octets "A:" ++ replicate 8_186 97 ++ octets "\r\n\r\n"))
-    ∷ asNumber (isWholeTrailer (octets "A:" ++ replicate 8_189 97))
-    ∷ asNumber (isWholeTrailer (octets "A:" ++ replicate 8_190 97))
-    ∷ asNumber (isTrailer (octets "A:" ++ replicate 8_190 97))
+    ∷ row 5 "a trailer of 32,768 bytes is good; without its end it is whole there, and is 6"
+    (asNumber (isTrailer (octets "A:" ++ replicate 32_762 97 ++ octets "\r\n\r\n"))
+    ∷ asNumber (isWholeTrailer (octets "A:" ++ replicate 32_765 97))
+    ∷ asNumber (isWholeTrailer (octets "A:" ++ replicate 32_766 97))
+    ∷ asNumber (isTrailer (octets "A:" ++ replicate 32_766 97))
     ∷ [])
     (1 ∷ 0 ∷ 1 ∷ 0 ∷ [])
-    ∷ row 5 "its fields are not counted" (asNumber (isTrailer (asLines (extraLines (extraNames 65)))) ∷ []) (1 ∷ [])
+    ∷ row 5 "its fields are not counted" (asNumber (isTrailer (asLines (extraLines (extraNames 129)))) ∷ []) (1 ∷ [])
     ∷ row 6 "what comes after the last word is not read" (body yes true (hello ++ signed "0" ++ octets "\r\nHTTP/1.1"))
     (109 ∷ 1 ∷ 70 ∷ 7 ∷ 109 ∷ 3 ∷ 0 ∷ 5 ∷ 111 ∷ 4 ∷ 5 ∷ [])
     -- the head's text
@@ -341,7 +341,7 @@ headTexts =
     ∷ row 8 "no field is good text, an empty line for the status line is not"
     (headFault terms (octets "HTTP/1.1 200 OK\r\n\r\n") ∷ headFault terms (octets "\r\nHTTP/1.1 200 OK\r\n\r\n") ∷ headFault terms (octets "\r\n\r\n") ∷ [])
     (4 ∷ 3 ∷ 3 ∷ [])
-    ∷ row 8 "64 fields, and 65" (fault (headLines ++ extraLines (extraNames 56)) ++ fault (headLines ++ extraLines (extraNames 57))) (0 ∷ 3 ∷ [])
+    ∷ row 8 "128 fields, and 129" (fault (headLines ++ extraLines (extraNames 120)) ++ fault (headLines ++ extraLines (extraNames 121))) (0 ∷ 3 ∷ [])
     ∷ row 8 "a doubled name, in another case, signed or not, and names that are only alike"
     (fault (headLines ++ (octets "X-OUINET-URI: x") ∷ [])
     ++ fault (headLines ++ (octets "x-ouinet-a: x") ∷ (octets "X-Ouinet-A: y") ∷ [])
@@ -359,7 +359,7 @@ headTexts =
     ∷ row 8 "3 goes before all else"
     (fault (put version (octets "X-Ouinet-Version: 5") headLines ++ (octets "x-ouinet-version: 4") ∷ [])
     ++ fault (put status (octets "HTTP/1.1 404 x") headLines ++ (octets "Bad") ∷ [])
-    ++ fault (without version headLines ++ extraLines (extraNames 58)))
+    ++ fault (without version headLines ++ extraLines (extraNames 122)))
     (3 ∷ 3 ∷ 3 ∷ [])
     ∷ []
 

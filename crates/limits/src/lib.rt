@@ -1,11 +1,12 @@
-// Paper 01's limits as the code has them, each named once, in the order of the definitions (stream/specs/Limits.antt). There is nothing to prove
-// here: each contract that keeps to a limit is stated with the definition's own name, so that a number which differs is refused there.
+// Paper 01's limits as the code has them, each named once, in the order of the definitions (stream/specs/Limits.antt). There is nothing to
+// prove here: what keeps to a limit is proved against the rule that has it, so that a number which differs from the definition's is refused
+// there. The state and its bytes have lengths of their own: an id of 64 bytes, a line of 128.
 
 // A head, and a trailer, without its end is refused at this many bytes. The head buffer and the question buffer have as many at least.
-pub const HEAD_LIMIT: usize = 8_192;
+pub const HEAD_LIMIT: usize = 32_768;
 
 // The most fields of a head.
-pub const FIELD_LIMIT: usize = 64;
+pub const FIELD_LIMIT: usize = 128;
 
 // The most names that a signature lists.
 pub const NAME_LIMIT: usize = 32;

@@ -23,11 +23,12 @@ use files::CUTS;
 use files::Loaded;
 use files::RING;
 use files::STREAM;
+use limits::BLOCK_LIMIT;
 use limits::HEAD_LIMIT;
 use ring::KeyRing;
 use sitting::Sitting;
 
-// Lent as arrays, the buffers need no count of their bytes in the proofs. A head has at most 8,192 bytes, and its URI fewer: a file that fills
+// Lent as arrays, the buffers need no count of their bytes in the proofs. A head's URI has fewer bytes than a head may have: a file that fills
 // the URI's buffer, or is longer, is no head's URI. Its beginning in the buffer is none either, and gives the same refusal.
 fn run(uri: &mut [u8; HEAD_LIMIT]) {
     let Loaded::Text(n) = files::load(options::read().uri, uri) else {
@@ -35,7 +36,7 @@ fn run(uri: &mut [u8; HEAD_LIMIT]) {
     };
     with_ring(
         &mut [0; HEAD_LIMIT],
-        &mut [0; 65536],
+        &mut [0; BLOCK_LIMIT],
         &mut [0; HEAD_LIMIT],
         &mut [0; 65536],
         &mut [0; 65536],
@@ -46,7 +47,7 @@ fn run(uri: &mut [u8; HEAD_LIMIT]) {
 // The ring's text is read into the buffer for pieces, which is free until the stream is opened.
 fn with_ring(
     head: &mut [u8; HEAD_LIMIT],
-    block: &mut [u8; 65536],
+    block: &mut [u8; BLOCK_LIMIT],
     question: &mut [u8; HEAD_LIMIT],
     piece: &mut [u8; 65536],
     text: &mut [u8; 65536],
@@ -74,7 +75,7 @@ fn with_ring(
 
 fn with_cuts(
     head: &mut [u8; HEAD_LIMIT],
-    block: &mut [u8; 65536],
+    block: &mut [u8; BLOCK_LIMIT],
     question: &mut [u8; HEAD_LIMIT],
     piece: &mut [u8; 65536],
     text: &mut [u8; 65536],
@@ -112,7 +113,7 @@ fn with_cuts(
 
 fn with_stream(
     head: &mut [u8; HEAD_LIMIT],
-    block: &mut [u8; 65536],
+    block: &mut [u8; BLOCK_LIMIT],
     question: &mut [u8; HEAD_LIMIT],
     piece: &mut [u8; 65536],
     cuts: &[u8],

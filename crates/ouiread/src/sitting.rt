@@ -6,6 +6,7 @@ use crate::files::ABSENT;
 use crate::files::BODY;
 use crate::messages;
 use crate::tallying::counted;
+use limits::BLOCK_LIMIT;
 use limits::HEAD_LIMIT;
 use state::Reader;
 use state::Word;
@@ -103,7 +104,7 @@ fn tell_plain(s: Sitting, block: &[u8], word: Word) -> Sitting {
 fn answer(
     s: Sitting,
     head: &mut [u8; HEAD_LIMIT],
-    block: &mut [u8; 65536],
+    block: &mut [u8; BLOCK_LIMIT],
     question: &mut [u8; HEAD_LIMIT],
     good: bool,
 ) -> Sitting {
@@ -118,7 +119,7 @@ fn answer(
 fn ask(
     s: Sitting,
     head: &mut [u8; HEAD_LIMIT],
-    block: &mut [u8; 65536],
+    block: &mut [u8; BLOCK_LIMIT],
     question: &mut [u8; HEAD_LIMIT],
 ) -> Sitting {
     let asked = s.answers;
@@ -161,7 +162,7 @@ fn is_question(w: Word) -> bool {
 pub fn tell(
     s: Sitting,
     head: &mut [u8; HEAD_LIMIT],
-    block: &mut [u8; 65536],
+    block: &mut [u8; BLOCK_LIMIT],
     question: &mut [u8; HEAD_LIMIT],
     word: Word,
 ) -> Sitting {

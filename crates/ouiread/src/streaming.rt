@@ -9,6 +9,7 @@ use crate::messages;
 use crate::sitting::Sitting;
 use crate::sitting::tell;
 use crate::sitting::with_reader;
+use limits::BLOCK_LIMIT;
 use limits::HEAD_LIMIT;
 use reader::Outcome;
 use ring::KeyRing;
@@ -25,7 +26,7 @@ struct Fed {
 fn told(
     s: Sitting,
     head: &mut [u8; HEAD_LIMIT],
-    block: &mut [u8; 65536],
+    block: &mut [u8; BLOCK_LIMIT],
     question: &mut [u8; HEAD_LIMIT],
     o: Outcome,
 ) -> Fed {
@@ -45,7 +46,7 @@ fn told(
 fn feed_rest(
     s: Sitting,
     head: &mut [u8; HEAD_LIMIT],
-    block: &mut [u8; 65536],
+    block: &mut [u8; BLOCK_LIMIT],
     question: &mut [u8; HEAD_LIMIT],
     ring: KeyRing,
     uri: &[u8],
@@ -62,7 +63,7 @@ fn feed_rest(
 fn feed_piece(
     s: Sitting,
     head: &mut [u8; HEAD_LIMIT],
-    block: &mut [u8; 65536],
+    block: &mut [u8; BLOCK_LIMIT],
     question: &mut [u8; HEAD_LIMIT],
     ring: KeyRing,
     uri: &[u8],
@@ -99,7 +100,7 @@ fn read_piece(stream: i32, room: &mut [u8], size: usize) -> Filled {
 fn finish(
     s: Sitting,
     head: &mut [u8; HEAD_LIMIT],
-    block: &mut [u8; 65536],
+    block: &mut [u8; BLOCK_LIMIT],
     question: &mut [u8; HEAD_LIMIT],
 ) -> Sitting {
     let r = s.reader;
@@ -114,7 +115,7 @@ fn finish(
 pub fn read_all(
     s: Sitting,
     head: &mut [u8; HEAD_LIMIT],
-    block: &mut [u8; 65536],
+    block: &mut [u8; BLOCK_LIMIT],
     question: &mut [u8; HEAD_LIMIT],
     piece: &mut [u8; 65536],
     cuts: &[u8],

@@ -2,6 +2,7 @@ pub mod Example
 pub mod Cases
 pub mod GivenHeads
 pub mod PlaceCases
+pub mod LimitCases
 pub mod RepeatCases
 pub mod AskedCases
 pub mod Truth

@@ -1,11 +1,11 @@
 -- Where refused texts went wrong (request #106), by examples: each row is a name, what the definitions give, and what is due. One computed test
 -- covers the table. The dues were written from the request and its readings. Assumes nothing.
-use mathlib.Core.Bool.{true}
+use mathlib.Core.Bool.{true, false}
 use mathlib.Core.List.{List, [], _∷_, _++_}
 use mathlib.Core.Path.{_≡_, refl}
 use Prim.Native.Nat.{ℕ, zero, suc}
 use Prim.Native.String.{String}
-use lib.ListN.{replicate}
+use lib.ListN.{length, replicate}
 use Rattle.octets.specs.Octets.{octets}
 use Rattle.base64.specs.Base64.{letterValue, isBase64, holdsThree, holdsTwo, holdsOne}
 use Rattle.scanner.specs.Form.{stepForm, reachForm}
@@ -59,10 +59,8 @@ fields (suc n) = line "A: b" ++ fields n
 
 pub rows : List Case
 rows =
-    -- no end: the length taken, whatever the text is
-    row "x to the head's limit" (headPlace (replicate 8192 120)) 8192
-    ∷ row "x to the line's limit" (linePlace (replicate 128 120)) 128
-    ∷ row "x to the trailer's limit" (trailerPlace (replicate 8192 120)) 8192
+    -- no end: the length taken; `unended-places` below says it of any text
+    row "x to the line's limit" (linePlace (replicate 128 120)) 128
     ∷ row "x 126 times, and its end" (linePlace (replicate 126 120 ++ crlf)) 0
     -- a CR may begin a line's end, and counts
     ∷ row "CR in a value" (reachForm fieldLineForm (line "A: b\rc")) 5
@@ -98,8 +96,8 @@ rows =
     ∷ row "a trailer with no name" (trailerPlace (line ": b" ++ crlf)) 0
     ∷ row "a bare trailer" (trailerPlace crlf) 2
     -- by text alone: neither the number of fields counts, nor that two have one name
-    ∷ row "65 fields" (headPlace (withLines (fields 65 ++ crlf))) 409
-    ∷ row "65 fields, then bad text" (headPlace (withLines (fields 65 ++ line "B c" ++ crlf))) 408
+    ∷ row "129 fields" (headPlace (withLines (fields 129 ++ crlf))) 793
+    ∷ row "129 fields, then bad text" (headPlace (withLines (fields 129 ++ line "B c" ++ crlf))) 792
     ∷ row "two of one name" (headPlace (withLines (fields 2 ++ crlf))) 31
     ∷ row "two of one name, then bad text" (headPlace (withLines (fields 2 ++ line "B c" ++ crlf))) 30
     ∷ row "a name with a colon" (reachForm nameForm (octets "A:")) 1
@@ -112,7 +110,7 @@ rows =
     ∷ says "a bad data end" (judgeDataEnd show nothing (octets "01234") (octets "\r\r")) (6 ∷ 1 ∷ [])
     ∷ says "a bad trailer" (judgeTrailer 5 (line "A b" ++ crlf)) (6 ∷ 1 ∷ [])
     ∷ says "a bad head" (judgeHead terms (line "HTTP/1.1 20" ++ crlf)) (3 ∷ 11 ∷ [])
-    ∷ says "a head with 65 fields" (judgeHead terms (withLines (fields 65 ++ crlf))) (3 ∷ 409 ∷ [])
+    ∷ says "a head with 129 fields" (judgeHead terms (withLines (fields 129 ++ crlf))) (3 ∷ 793 ∷ [])
     ∷ says "a head with two fields of one protected name" (judgeHead terms (withLines (line "x-ouinet-: b" ++ (line "X-Ouinet-: c" ++ crlf)))) (3 ∷ 47 ∷ [])
     ∷ says "a head with two fields of another name, and no version" (judgeHead terms (withLines (fields 2 ++ crlf))) (4 ∷ 0 ∷ [])
     ∷ says "a head without a version" (judgeHead terms (withLines (fields 1 ++ crlf))) (4 ∷ 0 ∷ [])
@@ -121,3 +119,10 @@ rows =
 pub places : holdsAll rows ≡ true
 unfolding rows holdsAll said letterValue isBase64 holdsThree holdsTwo holdsOne stepForm reachForm reach reachFrom all same lowered sameName among isProtected isProtectedDoubled namesOf hasField valueOf signatureForm sizeForm chunkForm dataEndForm nameForm fieldForm fieldLineForm trailerForm statusForm statusLineForm headForm endsHead endsWith headPlace linePlace dataEndPlace trailerPlace endsTrailer isTrailer lines beforeEmpty textLines trimmed fieldScan isFieldLine fieldOf areFieldLines fieldsOf statusScan isStatusLine statusOf scan run past startsWith numberFrom isDecimal isHexNumber isChunkLine carriesSignature chunkSize lineRules lineFault firstBroken readHead headOf statusDigits injectionScan bsigsScan sig0Scan textRules callerRules headFault judgeHead judgeFirstLine judgeDataEnd judgeNextLine judgeTrailer
 places = refl
+
+-- "x to the limit", for any text without its end and whatever the limit is: the length taken
+pub unended-places
+    : (l : List ℕ)
+    → (endsHead l ≡ false → headPlace l ≡ length l) × (endsWith crlf l ≡ false → linePlace l ≡ length l) × (endsTrailer l ≡ false → trailerPlace l ≡ length l)
+unfolding headPlace linePlace trailerPlace
+unended-places l = (λ e. rw e, λ e. rw e, λ e. rw e)

@@ -121,9 +121,9 @@ table =
     ∷ case "listed twice" (judged (signing " vary vary" ("Vary: a" ∷ "Vary: b" ∷ []))) (4 ∷ 0 ∷ [])
     ∷ case "listed twice in other cases" (judged (signing " vary Vary" ("Vary: a" ∷ "Vary: b" ∷ []))) (4 ∷ 0 ∷ [])
     ∷ case "listed, and not there" (judged (signing " vary" ("Via: a" ∷ "Via: b" ∷ []))) (4 ∷ 0 ∷ [])
-    -- 64 is the most lines, not the most names
-    ∷ case "64 lines" (judged (signing " vary" (replicate 55 "Vary: a"))) (0 ∷ 389 ∷ [])
-    ∷ case "65 lines" (judged (signing " vary" (replicate 56 "Vary: a"))) (3 ∷ 1_214 ∷ [])
+    -- 128 is the most lines, not the most names
+    ∷ case "128 lines" (judged (signing " vary" (replicate 119 "Vary: a"))) (0 ∷ 581 ∷ [])
+    ∷ case "129 lines" (judged (signing " vary" (replicate 120 "Vary: a"))) (3 ∷ 1_790 ∷ [])
     -- handed out: the first line's value, and how many lines there are
     ∷ case "the first line's" (handed (signing " vary" ("Vary: a" ∷ "Via: x" ∷ "vary: b" ∷ "Vary: c" ∷ [])) "VARY") (3 ∷ octets "a")
     ∷ case "a signed field of the example, and one line before it" (handed (withFields ("Date: x" ∷ [])) "date") (2 ∷ octets "x")

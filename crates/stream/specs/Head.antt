@@ -20,7 +20,7 @@ use Rattle.stream.specs.Signing.{signedFields, joinedFields, signingText
 use Rattle.stream.specs.Template.{Scanned, nth}
 use Rattle.stream.specs.Terms.{Terms}
 
--- "at the first CR LF CR LF, or refused with 3 when 8,192 bytes have come without it"
+-- "at the first CR LF CR LF, or refused with 3 when 8,192 bytes have come without it"; request #108: "Head and trailer limit to 32,768"
 unfoldable pub endsHead : List ℕ → Bool
 endsHead l = endsWith (crlf ++ crlf) l
 

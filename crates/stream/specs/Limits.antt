@@ -1,14 +1,14 @@
--- Paper 01's limits, each named once. Assumes nothing.
+-- Paper 01's limits, each named once, as request #108 moved the first two. Assumes nothing.
 use Prim.Native.Nat.{ℕ}
 
 -- A head, and a trailer, without its end is refused at this many bytes. The head buffer and the question buffer have as many at least:
--- a signing string is never longer than its head.
+-- a signing string is never longer than its head. Request #108: "Head and trailer limit to 32,768", "head and question holds to 32,768".
 abbrev pub headLimit : ℕ
-headLimit = 8_192
+headLimit = 32_768
 
--- "at most 64 fields"
+-- the most fields of a head; request #108: "fields to 128"
 abbrev pub fieldLimit : ℕ
-fieldLimit = 64
+fieldLimit = 128
 
 -- "at most 32 in all": the names that a signature lists
 abbrev pub nameLimit : ℕ

@@ -11,7 +11,7 @@ use Rattle.stream.specs.Lines.{crlf, endsWith, textLines, areFieldLines}
 unfoldable pub endsTrailer : List ℕ → Bool
 endsTrailer l = same l crlf || endsWith (crlf ++ crlf) l
 
--- "No end in 8,192 bytes"
+-- "No end in 8,192 bytes"; request #108: "Head and trailer limit to 32,768"
 unfoldable pub isWholeTrailer : List ℕ → Bool
 isWholeTrailer l = endsTrailer l || leb headLimit (length l)
 

@@ -107,18 +107,12 @@ pub names-length : (a b : List ℕ) → (length a ≡ length b → ⊥) → same
 unfolding sameName lowered
 names-length a b h = same-length _ _ (λ e. h (sym (length-map a lower) ∙ e ∙ length-map b lower))
 
--- a turn: x and y are the bytes at i in lower case
+-- a turn: x and y are the bytes at i in lower case, and `so-far` is whether all before them are the same
 module _ (a b : List ℕ) (i x y : ℕ) (h : i < length a) (j : i < length b) (f : x ≡ lower (getD a i 0)) (g : y ≡ lower (getD b i 0)) where
-  names-on : sameName (drop i a) (drop i b) ≡ eqb x y && sameName (drop (i + 1) a) (drop (i + 1) b)
+  pub names-turn : (so-far : Bool) → so-far && sameName (drop i a) (drop i b) ≡ (so-far && eqb x y) && sameName (drop (i + 1) a) (drop (i + 1) b)
   unfolding sameName lowered same
-  names-on = rw (f, g, add-one i, drop-cons a i 0, drop-cons b i 0)
+  names-turn so-far = rw (f, g, add-one i, drop-cons a i 0, drop-cons b i 0) (both-assoc so-far _ _)
 
-  pub names-agree : x ≡ y → sameName (drop i a) (drop i b) ≡ sameName (drop (i + 1) a) (drop (i + 1) b)
-  names-agree e = names-on ∙ rw (eq-eqb x y e)
-
-  pub names-differ : (x ≡ y → ⊥) → sameName (drop i a) (drop i b) ≡ false
-  names-differ e = names-on ∙ rw (ne-eqb x y e)
-
-pub names-out : (a b : List ℕ) (i : ℕ) → length a ≤ i → length b ≤ i → sameName (drop i a) (drop i b) ≡ true
+pub names-out : (a b : List ℕ) (i : ℕ) → length a ≤ i → length b ≤ i → (so-far : Bool) → so-far && sameName (drop i a) (drop i b) ≡ so-far
 unfolding sameName lowered same
-names-out a b i h j = rw (drop-of-length-le a, drop-of-length-le b)
+names-out a b i h j so-far = rw (drop-of-length-le a, drop-of-length-le b) (both-true so-far)

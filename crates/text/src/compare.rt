@@ -44,18 +44,19 @@ pub fn lower(b: u8) -> u8
     b + 32
 }
 
+// All bytes are compared, whatever the first ones are: without a way out of the loop the machine takes many bytes at a turn, and long names that
+// differ only at their ends cost little.
 pub fn same_name(a: &[u8], b: &[u8]) -> bool
     ensures { λ r. ⌜ r ≡ sameName (now (a .entry)) (now (b .entry)) ⌝ }
 {
     if a.len() != b.len() {
         return false;
     }
+    let mut same = true;
     let mut i = 0;
     while i < a.len() {
-        if lower(a[i]) != lower(b[i]) {
-            return false;
-        }
+        same = same & (lower(a[i]) == lower(b[i]));
         i += 1;
     }
-    true
+    same
 }

@@ -1,10 +1,11 @@
 //! `compare PROGRAM_A PROGRAM_B --seed S --count N [--groups LIST] [--least-places P] [--least-repeated R] [--least-asked A]
-//! [--keep DIR] [--no-status-in-a]`: makes cases with the generator, runs both readers on each, and compares standard output and
+//! [--least-longer L] [--keep DIR] [--no-status-in-a]`: makes cases with the generator, runs both readers on each, and compares standard output and
 //! released bytes with each other, and these and the exit status with what the generator expects.
 //! Both are given `--where`, so that a refusal's line has the place of a wrong text. It counts the
 //! cases in which both refused a text at the same place, those in which both accepted a head with a
-//! name in several lines, and those in which both refused a head because another URI was asked for; fewer
-//! than P, R or A are a failure. With the last option A is a program that has
+//! name in several lines, those in which both refused a head because another URI was asked for, and those in
+//! which both accepted a head of more bytes or fields than paper 01 allowed; fewer than P, R, A or L are a
+//! failure. With the last option A is a program that has
 //! no exit status of its own: its complaints about a malformed file are held to the same rules, and it
 //! must end with 0. Cases that fail are kept in a folder each, under DIR or else under
 //! `compare-kept-S` in the folder for temporary files.
@@ -22,7 +23,7 @@ use streams::sequence::{self, Group, Sequence};
 
 const USAGE: &str =
     "usage: compare PROGRAM_A PROGRAM_B --seed S --count N [--groups LIST] [--least-places P] [--least-repeated R] \
-    [--least-asked A] [--keep DIR] [--no-status-in-a]";
+    [--least-asked A] [--least-longer L] [--keep DIR] [--no-status-in-a]";
 
 fn main() -> ExitCode {
     let words: Vec<String> = std::env::args().skip(1).collect();
@@ -48,7 +49,7 @@ struct Settings {
     have_status: [bool; 2],
 }
 
-/// Of the cases that passed, those of three kinds.
+/// Of the cases that passed, those of four kinds.
 #[derive(Default)]
 struct Counts {
     /// Both refused a text at the same place.
@@ -57,13 +58,17 @@ struct Counts {
     repeated: usize,
     /// Both refused a head because another URI was asked for.
     asked: usize,
+    /// Both accepted a head beyond paper 01's own limits.
+    longer: usize,
 }
 
 impl Counts {
     fn add(&mut self, case: &Case, outcomes: &[Outcome; 2]) {
         self.places += usize::from(outcomes.iter().all(has_place));
-        self.repeated += usize::from(outcomes.iter().all(accepts_head) && case.has_repeated_field());
+        let accepted = outcomes.iter().all(accepts_head);
+        self.repeated += usize::from(accepted && case.has_repeated_field());
         self.asked += usize::from(outcomes.iter().all(is_other_show));
+        self.longer += usize::from(accepted && case.has_longer_head());
     }
 
     /// Tells the counts, and gives how many of them are too low.
@@ -72,6 +77,7 @@ impl Counts {
             ("refusals with a place", self.places, least.places),
             ("accepted heads with a repeated field", self.repeated, least.repeated),
             ("refusals of another show", self.asked, least.asked),
+            ("accepted heads of more bytes or fields than before", self.longer, least.longer),
         ];
         for (what, count, least) in kinds {
             println!("{count} {what} were compared");
@@ -98,6 +104,7 @@ impl Settings {
                 "--least-places" => least.places = number(word, value()?)? as usize,
                 "--least-repeated" => least.repeated = number(word, value()?)? as usize,
                 "--least-asked" => least.asked = number(word, value()?)? as usize,
+                "--least-longer" => least.longer = number(word, value()?)? as usize,
                 "--keep" => keep = Some(PathBuf::from(value()?)),
                 "--no-status-in-a" => have_status[0] = false,
                 other if other.starts_with("--") => return Err(format!("no option {other}\n{USAGE}")),

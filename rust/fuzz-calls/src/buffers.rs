@@ -3,6 +3,7 @@
 use ouinet_reader::raw::{self, Lent};
 use second::calls::Holds;
 use std::ops::Range;
+use streams::limits::before;
 use streams::rng::Rng;
 
 /// So many marked bytes lie before and behind each buffer.
@@ -140,11 +141,12 @@ impl Buffers {
     }
 }
 
-/// One of these lengths made too short: empty, one byte short, or anything between.
+/// One of these lengths made too short: empty, one byte short, as a head and a question could be before, or anything between.
 pub fn too_short(least: usize, rng: &mut Rng) -> usize {
-    match rng.below(3) {
+    match rng.below(4) {
         0 => 0,
         1 => least - 1,
+        2 => before::SECTION.min(least - 1),
         _ => rng.below(least),
     }
 }

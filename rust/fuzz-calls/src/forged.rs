@@ -10,7 +10,7 @@ use streams::asked::other_uri;
 use streams::rng::Rng;
 
 /// Numbers at or beside a limit somewhere.
-const NUMBERS: [u64; 18] = [
+const NUMBERS: [u64; 21] = [
     0,
     1,
     2,
@@ -22,6 +22,9 @@ const NUMBERS: [u64; 18] = [
     8191,
     8192,
     8193,
+    32_767,
+    32_768,
+    32_769,
     65_535,
     65_536,
     65_537,

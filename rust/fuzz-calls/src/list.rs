@@ -10,6 +10,7 @@ use second::calls::{Calls, Contents, Outcome, Word};
 use second::event::Refusal;
 use second::ring::Record;
 use streams::asked::other_uri;
+use streams::head;
 use streams::rng::Rng;
 
 /// The longest pieces of a list: most lists are cut small.
@@ -118,6 +119,8 @@ impl<'a> List<'a> {
             self.expect(&outcome);
             count(&outcome.word, tally);
             tally.late_uris += u64::from(is_late_uri && !leaves_all(&outcome.word));
+            let is_accepted = matches!(outcome.word, Word::HeadAccepted { .. });
+            tally.longer += u64::from(is_accepted && head::is_longer(self.calls.bytes()));
         }
         self.buffers.check()?;
         self.check_block()?;

@@ -7,6 +7,7 @@ use streams::asked;
 use streams::case::{Answering, Case};
 use streams::damage;
 use streams::head;
+use streams::longer;
 use streams::plan::{ring_text, Built};
 use streams::random;
 use streams::repeated;
@@ -55,7 +56,7 @@ impl Material {
 
 /// What materials are drawn from.
 pub struct Pool {
-    /// The example, each rule broken on it, both sides of each limit, repeated fields, and asked URIs.
+    /// The example, each rule broken on it, both sides of each limit, repeated fields, asked URIs, and longer heads.
     fixed: Vec<Material>,
     small: Vec<Built>,
     hits: Vec<damage::Hit>,
@@ -64,7 +65,7 @@ pub struct Pool {
 
 impl Pool {
     pub fn new() -> Self {
-        let groups = [Group::Example, Group::Rules, Group::Bounds, Group::Repeated, Group::Asked];
+        let groups = [Group::Example, Group::Rules, Group::Bounds, Group::Repeated, Group::Asked, Group::Longer];
         let small = damage::streams();
         Pool {
             fixed: Sequence::new(1, &groups).map(Material::of_case).collect(),
@@ -75,15 +76,16 @@ impl Pool {
     }
 
     pub fn draw(&self, rng: &mut Rng) -> Material {
-        match rng.below(11) {
+        match rng.below(13) {
             0 | 1 => rng.pick(&self.fixed).clone(),
             2 | 3 => Material::of_case(damage::case(*rng.pick(&self.hits), &self.small, rng)),
             4 => Material::of_built("a small stream", rng.pick(&self.small)),
             5 => self.broken(rng),
             6 => Material::of_case(damage::several(&random::full_plan(rng).build(), rng)),
             7 => Material::of_case(wrong_text::case(rng)),
-            8 => Material::of_case(repeated::case(rng)),
-            9 => Material::of_case(asked::case(&self.rules, rng)),
+            8 | 9 => Material::of_case(repeated::case(rng)),
+            10 => Material::of_case(asked::case(&self.rules, rng)),
+            11 => Material::of_case(longer::case(rng)),
             _ => Material::of_built("a random stream", &random::plan(rng).build()),
         }
     }

@@ -20,6 +20,8 @@ pub struct Tally {
     pub values: u64,
     /// Counts of a field's lines that were above 1.
     pub repeated: u64,
+    /// Accepted heads of more bytes or fields than before request #108.
+    pub longer: u64,
     /// Feeds that were lent another URI when the head had been judged, and were read all the same: it is not looked at then. Those that are
     /// refused with 1 or 2, or are answered that a buffer is too short, show nothing of it and do not count.
     pub late_uris: u64,
@@ -33,6 +35,7 @@ impl Tally {
         self.forged += other.forged;
         self.values += other.values;
         self.repeated += other.repeated;
+        self.longer += other.longer;
         self.late_uris += other.late_uris;
         self.places += other.places;
         for (mine, theirs) in self.words.iter_mut().zip(other.words) {
@@ -55,6 +58,7 @@ impl fmt::Display for Tally {
         }
         writeln!(out, "\nrefusals with a place {}", self.places)?;
         write!(out, "buffers too short for any answer {}, values handed out {}, ", self.too_short, self.values)?;
-        write!(out, "counts of a repeated field {}, other URIs after the head {}", self.repeated, self.late_uris)
+        write!(out, "counts of a repeated field {}, accepted longer heads {}, ", self.repeated, self.longer)?;
+        write!(out, "other URIs after the head {}", self.late_uris)
     }
 }

@@ -21,9 +21,10 @@ fn judged(case: &Case, asked: &[u8]) -> Option<Result<Vec<u8>, Refusal>> {
 
 #[test]
 fn uris_of_accepted_heads() {
-    let groups = [Group::Example, Group::Rules, Group::Bounds, Group::Repeated, Group::Asked, Group::Mixed];
+    let groups =
+        [Group::Example, Group::Rules, Group::Bounds, Group::Repeated, Group::Asked, Group::Longer, Group::Mixed];
     let (mut accepted, mut others) = (0, 0);
-    for case in Sequence::new(9, &groups).take(3000) {
+    for case in Sequence::new(9, &groups).take(3350) {
         let found = head_uri(&case.stream);
         match judged(&case, &case.uri) {
             Some(Ok(uri)) => {

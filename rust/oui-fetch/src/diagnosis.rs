@@ -3,11 +3,10 @@
 //! is printable ASCII, and all else is escaped.
 
 use crate::excerpt;
+use crate::files::MOST_SECTION;
+use ouinet_reader::raw::FIELD_LIMIT;
 use ouinet_reader::{Section, SectionKind};
 use std::ops::Range;
-
-/// The most fields of a head.
-const MOST_FIELDS: usize = 64;
 
 pub struct Diagnosis {
     /// The cause.
@@ -43,14 +42,20 @@ fn wrong_text(section: &Section, bytes: &[u8], at: usize) -> Diagnosis {
 
 fn no_end(section: &Section, bytes: &[u8]) -> Diagnosis {
     let start = section.start;
+    let most = with_comma(MOST_SECTION);
     let words = match section.kind {
-        SectionKind::Head => "the head has no end within 8,192 bytes".to_string(),
+        SectionKind::Head => format!("the head has no end within {most} bytes"),
         SectionKind::Trailer => {
-            format!("the trailer, from offset {start} of the stream, has no end within 8,192 bytes")
+            format!("the trailer, from offset {start} of the stream, has no end within {most} bytes")
         }
         _ => format!("the chunk line at offset {start} of the stream has no end within 128 bytes"),
     };
     Diagnosis { words, shown: vec![excerpt::beginning(bytes)] }
+}
+
+/// A number of four to six digits, with a comma before the last three.
+fn with_comma(number: usize) -> String {
+    format!("{},{:03}", number / 1000, number % 1000)
 }
 
 /// A head of good text.
@@ -58,8 +63,8 @@ fn wrong_fields(head: &[u8]) -> Diagnosis {
     let lines = Line::all(head);
     // Neither the status line nor the empty line at the end is a field
     let fields = &lines[1..lines.len() - 1];
-    if fields.len() > MOST_FIELDS {
-        let words = format!("the head has {} fields, and {MOST_FIELDS} are the most", fields.len());
+    if fields.len() > FIELD_LIMIT {
+        let words = format!("the head has {} fields, and {FIELD_LIMIT} are the most", fields.len());
         return Diagnosis { words, shown: Vec::new() };
     }
     let Some((first, second)) = doubled(head, fields) else {
@@ -182,11 +187,11 @@ mod tests {
 
     #[test]
     fn without_an_end() {
-        let text = b"<!doctype html>\n<html lang=\"en\">\n".repeat(300);
+        let text = b"<!doctype html>\n<html lang=\"en\">\n".repeat(1000);
         let beginning = r#"    <!doctype html>\n<html lang="en">\n<!doctype html>\n<html lang="en">\n<!..."#;
-        check(SectionKind::Head, 0, &text[..8192], 8192, "the head has no end within 8,192 bytes", &[beginning]);
-        let words = "the trailer, from offset 77 of the stream, has no end within 8,192 bytes";
-        check(SectionKind::Trailer, 77, &text[..8192], 8192, words, &[beginning]);
+        check(SectionKind::Head, 0, &text[..32_768], 32_768, "the head has no end within 32,768 bytes", &[beginning]);
+        let words = "the trailer, from offset 77 of the stream, has no end within 32,768 bytes";
+        check(SectionKind::Trailer, 77, &text[..32_768], 32_768, words, &[beginning]);
         let words = "the chunk line at offset 5 of the stream has no end within 128 bytes";
         let shown = format!("    {}...", "f".repeat(72));
         check(SectionKind::ChunkLine, 5, &b"f".repeat(128), 128, words, &[&shown]);
@@ -194,10 +199,10 @@ mod tests {
 
     #[test]
     fn counts_and_doublings() {
-        let fields: String = (0..66).map(|number| format!("f{number}: x\r\n")).collect();
+        let fields: String = (0..130).map(|number| format!("f{number}: x\r\n")).collect();
         let head = format!("HTTP/1.1 200 OK\r\n{fields}F2: y\r\n\r\n");
         let whole = head.len() as u64;
-        check(SectionKind::Head, 0, head.as_bytes(), whole, "the head has 67 fields, and 64 are the most", &[]);
+        check(SectionKind::Head, 0, head.as_bytes(), whole, "the head has 131 fields, and 128 are the most", &[]);
         let once = |lines: &str, words: &str, shown: &[&str]| {
             let head = format!("HTTP/1.1 200 OK\r\n{lines}\r\n");
             check(SectionKind::Head, 0, head.as_bytes(), head.len() as u64, words, shown);

@@ -1,6 +1,7 @@
 //! The program's files. Every complaint names the file.
 
 use crate::Complaint;
+use ouinet_reader::raw::HEAD_SIZE;
 use ouinet_reader::{head_uri, Ring};
 use std::fs::File;
 use std::io::{self, Cursor, Read, Write};
@@ -23,8 +24,8 @@ pub fn load_ring(path: &Path) -> Result<Ring, Complaint> {
     Ring::parse(&text).map_err(|fault| format!("{}: {fault}", path.display()))
 }
 
-/// No section that is judged by its text has more bytes.
-const MOST_SECTION: usize = 8192;
+/// No section that is judged by its text has more bytes; a head and a trailer may have as many.
+pub const MOST_SECTION: usize = HEAD_SIZE;
 /// What is kept of the stream may grow by so many bytes before the older ones are dropped.
 const SPARE: usize = 65_536;
 
@@ -53,7 +54,10 @@ impl Source {
     pub fn head_uri(&mut self) -> io::Result<Vec<u8>> {
         let mut head = Vec::new();
         let mut piece = [0; MOST_SECTION];
-        while head.len() < MOST_SECTION && !head.windows(4).any(|four| four == b"\r\n\r\n") {
+        // An end that a read brings begins among its bytes or the three before them
+        let mut searched = 0;
+        while head.len() < MOST_SECTION && !head[searched..].windows(4).any(|four| four == b"\r\n\r\n") {
+            searched = head.len().saturating_sub(3);
             match self.file.read(&mut piece[..MOST_SECTION - head.len()]) {
                 Ok(0) => break,
                 Ok(count) => head.extend_from_slice(&piece[..count]),

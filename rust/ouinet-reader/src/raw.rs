@@ -20,18 +20,18 @@ pub(crate) const PHASE_NEXT_LINE: u64 = 5;
 pub(crate) const PHASE_TRAILER: u64 = 7;
 /// Where a state has how many bytes of the section under way have come.
 pub(crate) const STATE_COUNT: usize = 8;
-/// The least length of a head buffer.
-pub const HEAD_SIZE: usize = 8192;
+/// The least length of a head buffer: a head, and a trailer too, has at most so many bytes.
+pub const HEAD_SIZE: usize = 32_768;
 /// The least length of a block buffer.
 pub const BLOCK_SIZE: usize = 65_536;
 /// The least length of a question buffer.
-pub const QUESTION_SIZE: usize = 8192;
+pub const QUESTION_SIZE: usize = 32_768;
 /// The length of a record in a ring: key, first second, last second.
 pub const RECORD_SIZE: usize = 48;
 /// The most records in a ring.
 pub const RING_LIMIT: usize = 16;
 /// The most field lines of an accepted head.
-pub const FIELD_LIMIT: usize = 64;
+pub const FIELD_LIMIT: usize = 128;
 /// The least length of a result: word, taken, two numbers, signature.
 pub const RESULT_SIZE: usize = 96;
 

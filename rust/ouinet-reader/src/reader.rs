@@ -30,7 +30,7 @@ pub struct Fed<'r> {
     pub event: Option<Event<'r>>,
 }
 
-/// A reader of one stream. It takes about 82 kB and the URI, whatever the length of the stream, and can be cloned at any time.
+/// A reader of one stream. It takes about 132 kB and the URI, whatever the length of the stream, and can be cloned at any time.
 #[derive(Clone)]
 pub struct Reader {
     ring: Ring,

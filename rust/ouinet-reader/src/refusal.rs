@@ -13,7 +13,7 @@ use std::fmt;
 /// stream that is.
 #[derive(Debug, Clone, Copy, PartialEq, Eq, Hash)]
 pub enum Refusal {
-    /// 3: the head's text is wrong or too long, it has over 64 field lines, or a field twice that may come only once: one whose
+    /// 3: the head's text is wrong or too long, it has over 128 field lines, or a field twice that may come only once: one whose
     /// name begins `X-Ouinet-` or is `Content-Length` or `Transfer-Encoding`, in any case. All others may be repeated.
     BadHead {
         /// Where its text goes wrong, or the length taken.
@@ -93,7 +93,7 @@ impl Refusal {
     pub fn meaning(self) -> &'static str {
         match self {
             Refusal::BadHead { .. } => {
-                "the head is not well formed: wrong text, no end within 8,192 bytes, over 64 fields, or a field twice that may come only once"
+                "the head is not well formed: wrong text, no end within 32,768 bytes, over 128 fields, or a field twice that may come only once"
             }
             Refusal::HeadRule => "the head breaks a rule of signed streams: a field is missing or has a wrong value",
             Refusal::BadVersion => "the stream is of another version than 4",
@@ -125,11 +125,12 @@ impl std::error::Error for Refusal {}
 #[cfg(test)]
 mod tests {
     use super::*;
+    use crate::raw::{FIELD_LIMIT, HEAD_SIZE};
 
     #[test]
     fn numbers_and_refusals_fit() {
         for number in (3..=12).chain([16]) {
-            for place in [0, 1, 8192, u64::MAX] {
+            for place in [0, 1, 32_768, u64::MAX] {
                 let has_place = number == 3 || number == 6;
                 match Refusal::from_numbers(number, place) {
                     Some(refusal) => {
@@ -147,6 +148,8 @@ mod tests {
 
     #[test]
     fn words() {
+        let without_commas = Refusal::BadHead { at: 0 }.meaning().replace(',', "");
+        assert!(without_commas.contains(&format!("no end within {HEAD_SIZE} bytes over {FIELD_LIMIT} fields")));
         assert_eq!(Refusal::Unfinished.to_string(), "the stream stops before its end");
         assert!(Refusal::BadFrame { at: 17 }.to_string().ends_with("; at byte 17 of it"));
     }

@@ -54,13 +54,13 @@ fn heads() {
     head(b"HTTP/1.1 200 OK\r\n\rA: b\r\n\r\n", 17 + 1);
     let doubled = b"HTTP/1.1 200 OK\r\nX-Ouinet-A: b\r\nx-ouinet-a: c\r\n\r\n";
     head(doubled, doubled.len() as u64);
-    let fields: String = (0..65).map(|number| format!("f{number}:\r\n")).collect();
+    let fields: String = (0..129).map(|number| format!("f{number}:\r\n")).collect();
     let many = format!("HTTP/1.1 200 OK\r\n{fields}\r\n");
     head(many.as_bytes(), many.len() as u64);
     // Bad text goes before both
     let both = format!("HTTP/1.1 200 OK\r\n{fields}X-Ouinet-A:\r\nX-Ouinet-A:\r\nA b\r\n\r\n");
     head(both.as_bytes(), both.len() as u64 - 6);
-    head(&b"x".repeat(8192), 8192);
+    head(&b"x".repeat(32_768), 32_768);
 }
 
 /// Where the body starts, and the parts of the example's body.
@@ -116,7 +116,7 @@ fn trailers() {
     frame(12, b"\rA: b\r\n\r\n", SectionKind::Trailer, 1);
     frame(12, b"A: b\r\nC d\r\n\r\n", SectionKind::Trailer, 7);
     frame(12, b"A: b\r\nC: d\x7f\r\n\r\n", SectionKind::Trailer, 10);
-    frame(12, &b"a".repeat(8192), SectionKind::Trailer, 8192);
+    frame(12, &b"a".repeat(32_768), SectionKind::Trailer, 32_768);
     let (start, parts) = body();
     let mut empty = STREAM[..start].to_vec();
     empty.extend(b"0\r\n");

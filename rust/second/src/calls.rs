@@ -6,7 +6,7 @@
 //! That is slow for long streams in tiny pieces and plain to follow.
 
 use crate::event::{Event, Question, Refusal};
-use crate::head::Signed;
+use crate::head::{self, Signed};
 use crate::plain::{self, Kind, Placed, Reading};
 use crate::ring::{Record, MOST_RECORDS};
 use std::ops::Range;
@@ -20,8 +20,9 @@ pub struct Holds {
 }
 
 impl Holds {
-    /// The shortest holds that are long enough.
-    pub const ENOUGH: Holds = Holds { head: 8192, block: 65_536, question: 8192 };
+    /// The shortest holds that are long enough. A head hold has room for any head, and so has a question hold, for what is asked
+    /// about a head is never longer (request #108: "head and question holds").
+    pub const ENOUGH: Holds = Holds { head: head::LIMIT, block: 65_536, question: head::LIMIT };
 
     fn are_enough(&self) -> bool {
         self.head >= Self::ENOUGH.head && self.block >= Self::ENOUGH.block && self.question >= Self::ENOUGH.question

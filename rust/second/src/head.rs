@@ -1,6 +1,7 @@
 //! The head: from the first byte of the stream to the first CR LF CR LF. It is judged once, whole.
 //! The rules are those of paper 01, "The head", points of whose list are cited by their first words, and for a name that
-//! comes in several lines those of request #102, and for the URI that the caller asked for those of request #105.
+//! comes in several lines those of request #102, and for the URI that the caller asked for those of request #105. The two
+//! limits are those of request #108.
 
 use crate::base64;
 use crate::event::Refusal;
@@ -11,12 +12,12 @@ use crate::trailer;
 use std::ops::Range;
 
 /// So many bytes without the head's end are refused.
-pub const LIMIT: usize = 8192;
+pub const LIMIT: usize = 32_768;
 /// What a head ends with.
 pub const END: &[u8] = b"\r\n\r\n";
 
 /// The most field lines of a head.
-pub const MOST_FIELDS: usize = 64;
+pub const MOST_FIELDS: usize = 128;
 /// The most names in the signed list, the two pseudo names included.
 pub const MOST_LISTED: usize = 32;
 const MOST_BLOCK: u64 = 65_536;

@@ -1,4 +1,4 @@
-//! A second reader for version 4 signature streams, written from paper 01 and requests #102, #105 and #106 alone.
+//! A second reader for version 4 signature streams, written from paper 01 and requests #102, #105, #106 and #108 alone.
 //!
 //! It exists to be compared with the verified reader, so it shares nothing with it. The modules:
 //!

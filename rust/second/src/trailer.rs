@@ -2,11 +2,12 @@
 //! point).
 
 use crate::event::Refusal;
+use crate::head;
 use crate::place::longest_beginning;
 use crate::text;
 
-/// So many bytes without the trailer's end are refused.
-pub const LIMIT: usize = 8192;
+/// So many bytes without the trailer's end are refused: as many as of a head (request #108: "Head and trailer limit").
+pub const LIMIT: usize = head::LIMIT;
 /// The whole of an empty trailer.
 pub const EMPTY: &[u8] = b"\r\n";
 /// What any other trailer ends with.

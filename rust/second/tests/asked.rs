@@ -103,8 +103,10 @@ fn the_same_bytes_are_asked_about() {
     for uri in [SOUTH, NORTH, "u", "/", "a b\tc", "~", "\u{e9}\u{0301}", "%2F", "https://example.com/?q=\"'\\`"] {
         assert!(judged(&head_of(&format!(" {uri}")), uri).is_ok(), "{uri}");
     }
-    let long = "x".repeat(7000);
-    assert!(judged(&head_of(&long), &long).is_ok());
+    for length in [7000, 32_000] {
+        let long = "x".repeat(length);
+        assert!(judged(&head_of(&long), &long).is_ok());
+    }
 }
 
 #[test]
@@ -179,7 +181,7 @@ fn empty_ones() {
 /// Whatever else is wrong with the head but its key goes first, with the same number as for the right URI.
 #[test]
 fn three_four_and_five_go_first() {
-    let fields: String = (0..60).map(|number| format!("f{number}:\r\n")).collect();
+    let fields: String = (0..head::MOST_FIELDS).map(|number| format!("f{number}:\r\n")).collect();
     let uri_line = format!("X-Ouinet-URI: {SOUTH}\r\n");
     let list = "x-ouinet-version x-ouinet-uri x-ouinet-injection";
     let edits = [
@@ -280,19 +282,20 @@ fn it_is_read_only_when_the_head_is_judged() {
     assert_eq!(refused, Outcome { word: Word::Refused(OTHER_SHOW), taken: end - 30 });
     assert!(matches!(calls.feed(Holds::ENOUGH, &ring(), SOUTH.as_bytes(), rest).word, Word::Question(_)));
     assert_eq!(calls.answer(Holds::ENOUGH, true).word, Word::HeadAccepted { status: 200 });
-    assert_eq!(calls.value(8192, b"x-ouinet-uri"), SOUTH.as_bytes());
+    assert_eq!(calls.value(32_768, b"x-ouinet-uri"), SOUTH.as_bytes());
     let rest = &stream.as_bytes()[end..];
     let (line, after) = rest.split_at(10 + 99);
     let asked = calls.feed(Holds::ENOUGH, &[], NORTH.as_bytes(), line);
     assert!(matches!(asked.word, Word::Question(_)));
     assert_eq!(calls.answer(Holds::ENOUGH, true).word, Word::Block { offset: 0, length: 5 });
     assert_eq!(calls.feed(Holds::ENOUGH, &[], b"", after).word, Word::Closed { total: 5 });
-    assert_eq!(calls.value(8192, b"x-ouinet-uri"), SOUTH.as_bytes());
+    assert_eq!(calls.value(32_768, b"x-ouinet-uri"), SOUTH.as_bytes());
 }
 
 #[test]
 fn what_a_refusal_leaves() {
-    let first = Contents { head: vec![1; 8192], block: vec![2; 65_536], question: vec![3; 8192] };
+    let Holds { head, block, question } = Holds::ENOUGH;
+    let first = Contents { head: vec![1; head], block: vec![2; block], question: vec![3; question] };
     let head = south();
     let mut calls = Calls::new();
     let stream = format!("{head}5\r\nHello");
@@ -308,7 +311,7 @@ fn what_a_refusal_leaves() {
     ] {
         assert_eq!(outcome, Outcome { word: Word::Refused(Refusal::plain(1)), taken: 0 });
     }
-    assert_eq!((calls.value(8192, b"x-ouinet-uri"), calls.value_count(8192, b"x-ouinet-uri")), (&b""[..], 0));
+    assert_eq!((calls.value(32_768, b"x-ouinet-uri"), calls.value_count(32_768, b"x-ouinet-uri")), (&b""[..], 0));
     assert_eq!(calls.block(65_536), b"");
 }
 

@@ -251,16 +251,16 @@ fn a_list_of_calls() {
     let Word::Question(question) = asked.word else { panic!("no question") };
     assert_eq!(question.message, SIGNING_STRING.as_bytes());
     assert_eq!(question.record, 0);
-    assert_eq!(calls.value(8192, b"date"), b"");
+    assert_eq!(calls.value(32_768, b"date"), b"");
     assert_eq!(calls.feed(enough, &ring(), URI, b"").word, refused(1));
     assert_eq!(calls.end(enough).word, refused(1));
     assert_eq!(calls.answer(short, true).word, refused(2));
 
     assert_eq!(calls.answer(enough, true).word, Word::HeadAccepted { status: 200 });
-    assert_eq!(calls.value(8192, b"dATe"), b"Sat, 21 Mar 2020 00:00:00 GMT");
-    assert_eq!(calls.value(8191, b"date"), b"");
-    assert_eq!(calls.value(8192, b"Trailer"), b"");
-    assert_eq!(calls.value(8192, b"(created)"), b"");
+    assert_eq!(calls.value(32_768, b"dATe"), b"Sat, 21 Mar 2020 00:00:00 GMT");
+    assert_eq!(calls.value(32_767, b"date"), b"");
+    assert_eq!(calls.value(32_768, b"Trailer"), b"");
+    assert_eq!(calls.value(32_768, b"(created)"), b"");
 
     // Neither the ring nor the URI is read again: empty ones change nothing now.
     let asked = calls.feed(enough, &[], b"", &stream[head_length..]);
@@ -279,7 +279,7 @@ fn a_list_of_calls() {
     // Other bytes than the ones not taken: the reading is over the bytes taken.
     let wrong = calls.feed(enough, &[], b"", b"12345X\nmore");
     assert_eq!((wrong.word, wrong.taken), (Word::Refused(Refusal::frame(0)), 7));
-    assert_eq!(calls.value(8192, b"date"), b"Sat, 21 Mar 2020 00:00:00 GMT");
+    assert_eq!(calls.value(32_768, b"date"), b"Sat, 21 Mar 2020 00:00:00 GMT");
     assert_eq!(calls.feed(enough, &[], b"", b"").word, refused(1));
     assert_eq!(calls.feed(short, &[], b"", b"").word, refused(2));
     assert_eq!(calls.end(enough).word, refused(1));

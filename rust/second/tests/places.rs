@@ -66,14 +66,14 @@ fn trailer_at(trailer: &[u8], place: usize) {
 
 #[test]
 fn point_1_the_limit_goes_before_bad_text() {
-    head_at(&b"x".repeat(9000), 8192);
+    head_at(&b"x".repeat(33_000), 32_768);
     line_at(&[&b"x".repeat(126)[..], b"\r\n"].concat(), 0);
     line_at(&b"x".repeat(128), 128);
     line_at(&[&b"x".repeat(127)[..], b"\r\n"].concat(), 128);
-    trailer_at(&b"\0".repeat(8192), 8192);
-    trailer_at(&[&b"\0".repeat(8188)[..], b"\r\n\r\n"].concat(), 0);
-    head_at(&[&b"x".repeat(8188)[..], b"\r\n\r\n"].concat(), 0);
-    head_at(&[&b"x".repeat(8189)[..], b"\r\n\r\n"].concat(), 8192);
+    trailer_at(&b"\0".repeat(32_768), 32_768);
+    trailer_at(&[&b"\0".repeat(32_764)[..], b"\r\n\r\n"].concat(), 0);
+    head_at(&[&b"x".repeat(32_764)[..], b"\r\n\r\n"].concat(), 0);
+    head_at(&[&b"x".repeat(32_765)[..], b"\r\n\r\n"].concat(), 32_768);
 }
 
 /// A head of so many fields of names that differ, with these lines at its end.
@@ -84,11 +84,11 @@ fn many_fields(count: usize, more: &str) -> String {
 
 #[test]
 fn point_2_the_length_taken_is_the_section_s() {
-    let head = many_fields(65, "");
+    let head = many_fields(129, "");
     head_at(head.as_bytes(), head.len());
     let doubled = many_fields(3, "X-Ouinet-F: 1\r\nx-ouinet-f: 2\r\n");
     head_at(doubled.as_bytes(), doubled.len());
-    assert_eq!(last(many_fields(64, "").as_bytes()), Event::Refused(Refusal::plain(4)));
+    assert_eq!(last(many_fields(128, "").as_bytes()), Event::Refused(Refusal::plain(4)));
 }
 
 #[test]
@@ -137,11 +137,11 @@ fn point_5_good_by_text_only() {
     line_at(format!("5;ouisig={}x\r\n", signature()).as_bytes(), 9 + 88);
     // A size above N, with a blank at the line's end
     line_at(b"ffffffff \r\n", 8);
-    let after_65 = many_fields(65, "A b: c\r\n");
-    head_at(after_65.as_bytes(), after_65.len() - 2 - 8 + 1);
+    let after_129 = many_fields(129, "A b: c\r\n");
+    head_at(after_129.as_bytes(), after_129.len() - 2 - 8 + 1);
     let after_doubling = many_fields(3, "X-Ouinet-F:\r\nX-Ouinet-F:\r\nA\0: c\r\n");
     head_at(after_doubling.as_bytes(), after_doubling.len() - 2 - 7 + 1);
-    let before_both = format!("HTTP/1.1 200 OK\r\n: {}", &many_fields(70, "X-Ouinet-F:\r\nX-Ouinet-F:\r\n")[17..]);
+    let before_both = format!("HTTP/1.1 200 OK\r\n: {}", &many_fields(130, "X-Ouinet-F:\r\nX-Ouinet-F:\r\n")[17..]);
     head_at(before_both.as_bytes(), 17);
 }
 

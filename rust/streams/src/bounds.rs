@@ -1,15 +1,15 @@
-//! Both sides of each limit of paper 01: the longest that is good and the shortest that is not.
+//! Both sides of each limit of paper 01, and of those that request #108 has moved, before and after: the longest that is good and the
+//! shortest that is not.
 
 use crate::case::{Answering, Case};
 use crate::example;
-use crate::head::{Field, LIMIT};
+use crate::head::Field;
+use crate::limits::{self, before, SECTION};
 use crate::plan::{blocks_of, Built, Kind, Plan, RingRecord, SizeStyle};
 use crate::rng::Rng;
 use crate::table::Table;
 use second::event::Refusal;
 
-/// So many bytes of a line without an end are refused.
-const LINE_LIMIT: usize = 128;
 /// The end comes before the section's.
 const UNFINISHED: Refusal = Refusal { number: 11, at: None };
 
@@ -50,13 +50,13 @@ impl Table<'_> {
     }
 
     fn head_lengths(&mut self) {
-        for length in [8190, 8191, 8192, 8193, 8194, 9000] {
+        for length in around(before::SECTION).chain(around(SECTION)).chain([9000, 40_000]) {
             let unsigned = padded(length, "unsigned");
             let signed = padded(length, "signed");
             let reason = padded(length, "reason");
             for (label, plan) in [("an unsigned value", unsigned), ("a signed value", signed), ("the reason", reason)] {
                 let label = format!("a head of {length} bytes through {label}");
-                if length <= 8192 {
+                if length <= SECTION {
                     self.good(label, &plan);
                 } else {
                     self.bad_head(label, &plan);
@@ -64,14 +64,14 @@ impl Table<'_> {
             }
         }
         let built = example::plan().build();
-        for length in [8191, 8192, 8193, 20_000] {
-            let refusal = if length < LIMIT { UNFINISHED } else { Refusal::head(LIMIT) };
+        for length in beside(before::SECTION).chain(beside(SECTION)).chain([40_000]) {
+            let refusal = if length < SECTION { UNFINISHED } else { Refusal::head(SECTION) };
             let endless = [b"HTTP/1.1 200 OK\r\nA: ", &b"a".repeat(length)[..]].concat();
             self.instead(refusal, format!("{length} bytes of head without an end"), &built, 0, &endless[..length]);
             self.instead(refusal, format!("{length} line feeds"), &built, 0, &b"\n".repeat(length));
             // An end within the limit: then the text is looked at
             let ended = [&b"x".repeat(length - 4)[..], b"\r\n\r\n"].concat();
-            let place = if length > LIMIT { LIMIT } else { 0 };
+            let place = if length > SECTION { SECTION } else { 0 };
             self.instead(Refusal::head(place), format!("{length} bytes of no head, and its end"), &built, 0, &ended);
         }
         self.instead(Refusal::head(0), "CR LF CR LF at once", &built, 0, b"\r\n\r\n");
@@ -80,10 +80,10 @@ impl Table<'_> {
     }
 
     fn field_counts(&mut self) {
-        for count in [63, 64, 65, 66, 100] {
+        for count in around(before::FIELDS).chain([100]).chain(around(limits::FIELDS)).chain([200]) {
             let mut plan = example::plan();
             fill(&mut plan, count);
-            if count <= 64 {
+            if count <= limits::FIELDS {
                 self.good(format!("{count} fields"), &plan);
             } else {
                 self.bad_head(format!("{count} fields"), &plan);
@@ -92,16 +92,16 @@ impl Table<'_> {
     }
 
     fn list_lengths(&mut self) {
-        for count in [31, 32, 33, 34] {
+        for count in around(limits::LISTED) {
             let mut plan = example::plan();
-            fill(&mut plan, 50);
+            fill(&mut plan, limits::FIELDS);
             let names: Vec<Vec<u8>> = plan.fields.iter().map(|field| field.name.clone()).collect();
             for name in names.into_iter().filter(|name| name.starts_with(b"Filler")) {
                 if plan.listed.len() + 2 < count {
                     plan.listed.push(name);
                 }
             }
-            if count <= 32 {
+            if count <= limits::LISTED {
                 self.good(format!("{count} listed names"), &plan);
             } else {
                 self.head_refused(4, format!("{count} listed names"), &plan);
@@ -183,7 +183,7 @@ impl Table<'_> {
         let lines: Vec<usize> = [built.places(Kind::Line), built.places(Kind::ZeroLine)].concat();
         for part in lines {
             for length in [127, 128, 129, 500] {
-                let refusal = if length < LINE_LIMIT { UNFINISHED } else { Refusal::frame(LINE_LIMIT) };
+                let refusal = if length < limits::LINE { UNFINISHED } else { Refusal::frame(limits::LINE) };
                 let label = format!("{length} bytes of a line without an end, part {part}");
                 self.instead(refusal, label, &built, part, &b"1".repeat(length));
                 let label = format!("{length} bytes of CR, part {part}");
@@ -192,7 +192,7 @@ impl Table<'_> {
             for length in [126, 127, 128, 129, 130] {
                 let line = [&b"1".repeat(length - 2)[..], b"\r\n"].concat();
                 // Eight digits are good, unless the line's end comes too late for its text to matter
-                let refusal = Refusal::frame(if length > LINE_LIMIT { LINE_LIMIT } else { 8 });
+                let refusal = Refusal::frame(if length > limits::LINE { limits::LINE } else { 8 });
                 self.instead(refusal, format!("a line of {length} bytes, part {part}"), &built, part, &line);
             }
             self.instead(UNFINISHED, format!("a line cut between CR and LF, part {part}"), &built, part, b"1\r");
@@ -213,25 +213,26 @@ impl Table<'_> {
         for blocks in [0, 3] {
             let mut plan = example::plan();
             plan.blocks.truncate(blocks);
-            for length in [6, 7, 8191, 8192] {
+            for length in [6, 7].into_iter().chain(around(before::SECTION)).chain([SECTION - 1, SECTION]) {
                 plan.trailer = trailer_of(length);
                 self.good(format!("a trailer of {length} bytes after {blocks} blocks"), &plan);
             }
-            plan.trailer = b"a:\r\n".repeat(2047);
-            plan.trailer.extend(b"\r\n");
-            self.good(format!("a trailer of 2,047 fields of one name after {blocks} blocks"), &plan);
+            for count in [limits::FIELDS + 1, 2047, 8191] {
+                plan.trailer = [&b"a:\r\n".repeat(count)[..], b"\r\n"].concat();
+                self.good(format!("a trailer of {count} fields of one name after {blocks} blocks"), &plan);
+            }
             plan.trailer = b"\r\n\r\n".to_vec();
             self.good(format!("CR LF twice after {blocks} blocks"), &plan);
             plan.trailer = b"\r\nA b: c\r\n\r\n".to_vec();
             self.good(format!("CR LF and then other bytes after {blocks} blocks"), &plan);
             let built = plan.build();
             let part = built.parts.len() - 1;
-            for length in [8193, 8194, 9000] {
+            for length in [SECTION + 1, SECTION + 2, 40_000] {
                 let label = format!("a trailer of {length} bytes after {blocks} blocks");
-                self.instead(Refusal::frame(LIMIT), label, &built, part, &trailer_of(length));
+                self.instead(Refusal::frame(SECTION), label, &built, part, &trailer_of(length));
             }
-            for length in [1, 8191, 8192, 8193] {
-                let refusal = if length < LIMIT { UNFINISHED } else { Refusal::frame(LIMIT) };
+            for length in [1].into_iter().chain(beside(before::SECTION)).chain(beside(SECTION)) {
+                let refusal = if length < SECTION { UNFINISHED } else { Refusal::frame(SECTION) };
                 let label = format!("{length} bytes of trailer without an end after {blocks} blocks");
                 self.instead(refusal, label, &built, part, &b"a".repeat(length));
                 let label = format!("{length} CR for a trailer after {blocks} blocks");
@@ -279,8 +280,18 @@ impl Table<'_> {
     }
 }
 
+/// A limit and the numbers beside it.
+fn beside(limit: usize) -> impl Iterator<Item = usize> {
+    limit - 1..=limit + 1
+}
+
+/// The same with two on each side.
+fn around(limit: usize) -> impl Iterator<Item = usize> {
+    limit - 2..=limit + 2
+}
+
 /// A plan whose head has so many bytes, padded at one of three places.
-fn padded(length: usize, place: &str) -> Plan {
+pub(crate) fn padded(length: usize, place: &str) -> Plan {
     let mut plan = example::plan();
     plan.fields.push(Field::new("X-Padding", ""));
     if place == "signed" {

@@ -223,6 +223,11 @@ impl Case {
         (0..names.len()).any(is_there_before)
     }
 
+    /// Whether the stream's head has more bytes or fields than paper 01 allowed before request #108.
+    pub fn has_longer_head(&self) -> bool {
+        head::is_longer(&self.stream)
+    }
+
     /// Writes the files of the case into a folder, and what is expected beside them.
     pub fn write(&self, folder: &Path) -> io::Result<()> {
         for (name, bytes) in self.files() {

@@ -42,8 +42,8 @@ pub fn random(rng: &mut Rng) -> Vec<usize> {
 
 /// One of the ways to cut, or none.
 pub fn any(stream: &[u8], rng: &mut Rng) -> Option<Vec<u8>> {
-    // Single bytes are left out for long streams, where each costs a call and tells nothing new.
-    let short = stream.len() < 20_000;
+    // Single bytes are left out for long streams, where each costs a call and tells nothing new. A head or trailer of any length is short.
+    let short = stream.len() < 40_000;
     match rng.below(5) {
         0 => None,
         1 if short => Some(text(&[1])),

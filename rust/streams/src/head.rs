@@ -1,7 +1,6 @@
 //! A head as a status line and a list of field lines that can be edited before it is written out.
 
-/// The most bytes of a head, and of a trailer.
-pub const LIMIT: usize = 8192;
+use crate::limits::before;
 
 /// A field line: name, colon, blanks, value, blanks.
 #[derive(Clone)]
@@ -76,8 +75,18 @@ pub fn replaced(bytes: &[u8], old: &[u8], new: &[u8]) -> Vec<u8> {
     [&bytes[..start], new, &bytes[start + old.len()..]].concat()
 }
 
+/// How many bytes a stream's head has without its end; all of them if there is none.
+fn length_before_end(stream: &[u8]) -> usize {
+    stream.windows(4).position(|four| four == b"\r\n\r\n").unwrap_or(stream.len())
+}
+
 /// What stands before the first colon of each line of a stream's head, the status line's the first.
 pub fn line_names(stream: &[u8]) -> impl Iterator<Item = &[u8]> {
-    let end = stream.windows(4).position(|four| four == b"\r\n\r\n").unwrap_or(stream.len());
-    stream[..end].split(|&byte| byte == b'\n').map(|line| line.split(|&byte| byte == b':').next().unwrap_or(line))
+    let head = &stream[..length_before_end(stream)];
+    head.split(|&byte| byte == b'\n').map(|line| line.split(|&byte| byte == b':').next().unwrap_or(line))
+}
+
+/// Whether a stream's head has more bytes or fields than paper 01 allowed before request #108.
+pub fn is_longer(stream: &[u8]) -> bool {
+    length_before_end(stream) + 4 > before::SECTION || line_names(stream).skip(1).count() > before::FIELDS
 }

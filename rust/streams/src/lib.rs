@@ -3,6 +3,7 @@
 //! libsodium and builds all texts itself, so that its expectations do not come from a reader.
 //!
 //! * `rng`: the seeded numbers;
+//! * `limits`: the limits that cases come to;
 //! * `sodium`: Ed25519 and SHA-512, a package of its own;
 //! * `base64`: encoding;
 //! * `head`: a head as an editable list of lines;
@@ -12,9 +13,10 @@
 //! * `case`: a case and what is expected of it;
 //! * `table`: cases made one after another;
 //! * `rules`: a table of the rules of paper 01, each broken once;
-//! * `bounds`: both sides of each length limit;
+//! * `bounds`: both sides of each limit;
 //! * `repeated`: heads in which a name comes in several lines;
 //! * `asked`: streams asked for by their own URI, or by another one;
+//! * `longer`: heads and trailers beyond paper 01's own limits;
 //! * `damage`: bytes changed, deleted, inserted, cut off;
 //! * `wrong_text`: damage to the text of a section;
 //! * `inputs`: malformed files;
@@ -34,7 +36,9 @@ pub mod damage;
 pub mod example;
 pub mod head;
 pub mod inputs;
+pub mod limits;
 pub mod long;
+pub mod longer;
 pub mod options;
 pub mod plan;
 pub mod random;

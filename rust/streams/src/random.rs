@@ -1,6 +1,7 @@
-//! Plans drawn at random: sizes, field orders, cases, blanks, key rings.
+//! Plans drawn at random: sizes, field orders, cases, blanks, key rings; now and then a long head or trailer.
 
 use crate::head::Field;
+use crate::limits::{before, SECTION};
 use crate::plan::{blocks_of, Plan, RingRecord, SizeStyle};
 use crate::rng::Rng;
 use crate::sodium::Signer;
@@ -8,6 +9,11 @@ use crate::sodium::Signer;
 const NAME_BYTES: &[u8] = b"abcdefghijklmnopqrstuvwxyzABCDEFGHIJKLMNOPQRSTUVWXYZ0123456789!#$%&'*+-.^_`|~";
 const ID_BYTES: &[u8] = b"abcdefghijklmnopqrstuvwxyzABCDEFGHIJKLMNOPQRSTUVWXYZ0123456789-_";
 pub(crate) const BLANKS: [&[u8]; 6] = [b"", b" ", b"  ", b"\t", b" \t", b"\t\t  "];
+
+/// The most fields and the longest value of a random head: enough to pass paper 01's own limits, and so much less than the limit that
+/// anything which is added to the head still fits.
+const MOST_RANDOM_FIELDS: usize = 120;
+const MOST_RANDOM_VALUE: usize = 22_000;
 
 /// An honest plan of any shape.
 pub fn plan(rng: &mut Rng) -> Plan {
@@ -71,6 +77,7 @@ fn plan_with(block_size: usize, blocks: Vec<Vec<u8>>, rng: &mut Rng) -> Plan {
     };
     plan.set_injection(&id, ts.to_string().as_bytes());
     add_other_fields(&mut plan, rng);
+    lengthen(&mut plan, rng);
     for name in [&b"X-Ouinet-Version"[..], b"X-Ouinet-URI", b"X-Ouinet-Injection"] {
         plan.listed.push(name.to_vec());
     }
@@ -131,6 +138,65 @@ fn add_other_fields(plan: &mut Plan, rng: &mut Rng) {
         }
         plan.fields.push(Field::new(name, value));
     }
+}
+
+/// Now and then a head or a trailer beyond paper 01's own limits (request #108). A head keeps room for what a broken rule or repeated fields
+/// add to it; `longer` has those that are full.
+fn lengthen(plan: &mut Plan, rng: &mut Rng) {
+    match rng.below(60) {
+        0 => {
+            let count = rng.between(before::FIELDS + 1, MOST_RANDOM_FIELDS);
+            add_many_fields(plan, count, rng);
+        }
+        1 => {
+            let length = rng.between(before::SECTION, MOST_RANDOM_VALUE);
+            add_long_value(plan, length, rng);
+        }
+        2 => {
+            let length = rng.between(before::SECTION, SECTION);
+            plan.trailer = long_trailer(length, rng);
+        }
+        _ => (),
+    }
+}
+
+/// Adds short fields until the plan has so many. Some of them are signed, with room in the list for a few more.
+pub(crate) fn add_many_fields(plan: &mut Plan, count: usize, rng: &mut Rng) {
+    while plan.fields.len() < count {
+        let name = format!("More-{}", plan.fields.len());
+        if plan.listed.len() < 20 && rng.one_in(4) {
+            plan.list(&name);
+        }
+        plan.add(&name, &trimmed(any_text(rng, 40)));
+    }
+}
+
+/// Puts a text of so many bytes into the head: into the reason, the URI, or a field of its own, signed or not.
+pub(crate) fn add_long_value(plan: &mut Plan, length: usize, rng: &mut Rng) {
+    // Blanks would not belong to a value if they stood at its ends
+    let text = [b"<", &rng.letters(b"xyz ,;=\t\x80\xff", length)[..], b">"].concat();
+    match rng.below(4) {
+        0 => plan.reason.extend(text),
+        1 => plan.field("X-Ouinet-URI").value.extend(text),
+        2 => plan.add("Long", &text),
+        _ => {
+            plan.add("Long", &text);
+            plan.list("Long");
+        }
+    }
+}
+
+/// A good trailer of almost so many bytes, in many lines or in one.
+pub(crate) fn long_trailer(length: usize, rng: &mut Rng) -> Vec<u8> {
+    let mut out = Vec::new();
+    if rng.one_in(2) {
+        out.extend(Field::new("Long", rng.letters(b"xyz \t\x80", length - 100)).line());
+    }
+    while out.len() + 100 < length {
+        out.extend(any_trailer_line(rng));
+    }
+    out.extend(b"\r\n");
+    out
 }
 
 pub fn any_signer(rng: &mut Rng) -> Signer {
@@ -202,13 +268,17 @@ fn any_sizes(rng: &mut Rng) -> SizeStyle {
 fn any_trailer(rng: &mut Rng) -> Vec<u8> {
     let mut out = Vec::new();
     for _ in 0..rng.below(5) {
-        let length = rng.between(1, 6);
-        let mut field = Field::new(rng.letters(b"aAbB-1!~", length), any_text(rng, 60));
-        field.left = rng.pick(&BLANKS).to_vec();
-        out.extend(field.line());
+        out.extend(any_trailer_line(rng));
     }
     out.extend(b"\r\n");
     out
+}
+
+fn any_trailer_line(rng: &mut Rng) -> Vec<u8> {
+    let length = rng.between(1, 6);
+    let mut field = Field::new(rng.letters(b"aAbB-1!~", length), any_text(rng, 60));
+    field.left = rng.pick(&BLANKS).to_vec();
+    field.line()
 }
 
 /// A ring in which the signer is trusted at that second: misfits before, anything after.

@@ -5,7 +5,8 @@
 use crate::case::{Answering, Case};
 use crate::damage;
 use crate::example;
-use crate::head::{Field, LIMIT};
+use crate::head::Field;
+use crate::limits::{before, FIELDS, LISTED, SECTION};
 use crate::plan::{Built, Join, Plan};
 use crate::random::{self, any_text, change_case, trimmed, BLANKS};
 use crate::rng::Rng;
@@ -18,8 +19,6 @@ const RANDOM: u64 = 300;
 /// The numbers of these cases begin here, where those of other groups never come.
 const FROM: u64 = 1 << 32;
 
-const MOST_FIELDS: usize = 64;
-const MOST_LISTED: usize = 32;
 /// The names that the example lists, the two pseudo names included.
 const OWN_LISTED: usize = 7;
 
@@ -148,34 +147,34 @@ impl Table<'_> {
         }
     }
 
-    /// 64 is the most lines, not the most names.
+    /// The limit is that of lines, not of names.
     fn many_lines(&mut self) {
-        for count in [10, 63, 64, 65, 66, 100] {
+        for count in [10, before::FIELDS, before::FIELDS + 1, 100, FIELDS - 1, FIELDS, FIELDS + 1, 200] {
             for listed in [&["vary"][..], &[]] {
                 let own = example::plan().fields.len();
                 let plan = plan_with(&vec![("Vary", "x"); count - own], listed);
                 let signed = if listed.is_empty() { "not signed" } else { "signed" };
                 let label = format!("{count} fields, most of one name, {signed}");
-                if count <= MOST_FIELDS {
+                if count <= FIELDS {
                     self.good(label, &plan);
                 } else {
                     self.bad_head(label, &plan);
                 }
             }
         }
-        let empty = vec![("a", ""); MOST_FIELDS - example::plan().fields.len()];
+        let empty = vec![("a", ""); FIELDS - example::plan().fields.len()];
         self.good("as many empty lines as can be", &plan_with(&empty, &["A"]));
     }
 
     /// As many listed names as there may be, each in two lines, and one more.
     fn many_names(&mut self) {
-        for count in [MOST_LISTED - 1, MOST_LISTED, MOST_LISTED + 1] {
+        for count in [LISTED - 1, LISTED, LISTED + 1] {
             let names: Vec<String> = (OWN_LISTED..count).map(|number| format!("name-{number}")).collect();
             let names: Vec<&str> = names.iter().map(String::as_str).collect();
             let lines: Vec<(&str, &str)> = names.iter().chain(&names).map(|name| (*name, "v")).collect();
             let plan = plan_with(&lines, &names);
             let label = format!("{count} listed names, most in two lines");
-            if count <= MOST_LISTED {
+            if count <= LISTED {
                 self.good(label, &plan);
             } else {
                 self.refused(Refusal::plain(4), label, &plan.build());
@@ -185,14 +184,14 @@ impl Table<'_> {
 
     /// Heads at the limit of bytes, in which a signed name has two lines or as many as can be.
     fn joined_lengths(&mut self) {
-        let most = MOST_FIELDS - example::plan().fields.len();
-        for length in [8190, 8191, 8192, 8193] {
+        let most = FIELDS - example::plan().fields.len();
+        for length in [before::SECTION, before::SECTION + 1, SECTION - 1, SECTION, SECTION + 1] {
             for count in [2, most] {
                 let mut plan = plan_with(&vec![("Via", "1.1 relay"); count], &["via"]);
                 let lacking = length - plan.build().parts[0].bytes.len();
                 plan.fields.last_mut().expect("a line").value.extend(b"p".repeat(lacking));
                 let label = format!("a head of {length} bytes with {count} lines of one name");
-                if length <= LIMIT {
+                if length <= SECTION {
                     self.good(label, &plan);
                 } else {
                     self.bad_head(label, &plan);
@@ -259,7 +258,7 @@ impl Table<'_> {
             ("Vary twice", plan_with(&[("Vary", "a"); 2], &["vary"])),
             ("a name of ours twice", plan_with(&[("X-Ouinet-A", ""); 2], &[])),
             ("a length twice", plan_with(&[("Content-Length", "5"); 2], &[])),
-            ("too many lines of a name", plan_with(&[("Vary", "a"); 60], &["vary"])),
+            ("too many lines of a name", plan_with(&[("Vary", "a"); FIELDS], &["vary"])),
         ];
         for (label, plan) in heads {
             for (line, place) in ODD_LINES.iter().step_by(5) {
@@ -332,19 +331,19 @@ pub fn case(rng: &mut Rng) -> Case {
 
 /// An honest random plan in which one to three names have several lines.
 pub fn plan(rng: &mut Rng) -> Plan {
-    plan_of(MOST_FIELDS, rng)
+    plan_of(FIELDS, rng)
 }
 
 /// Such a plan with so many fields at most.
 fn plan_of(most: usize, rng: &mut Rng) -> Plan {
     let mut plan = random::full_plan(rng);
     for _ in 0..rng.between(1, 3) {
-        let room = most - plan.fields.len();
+        let room = most.saturating_sub(plan.fields.len());
         if room < 2 {
             break;
         }
         let name = any_name(&mut plan, rng);
-        let bound = *rng.pick(&[2, 2, 3, 6, 60]);
+        let bound = *rng.pick(&[2, 2, 3, 6, FIELDS]);
         for _ in 0..rng.between(2, bound).min(room) {
             insert_anywhere(&mut plan, any_line(&name, rng), rng);
         }
@@ -388,7 +387,7 @@ fn any_line(name: &[u8], rng: &mut Rng) -> Field {
 
 /// A random plan with a signed name of three lines that differ, signed over something else than the joined values.
 fn wrongly_signed_case(rng: &mut Rng) -> Case {
-    let mut plan = plan_of(MOST_FIELDS - 3, rng);
+    let mut plan = plan_of(FIELDS - 3, rng);
     plan.list("Three");
     for value in ["b", "", "a"] {
         plan.add("three", value.as_bytes());
@@ -399,7 +398,7 @@ fn wrongly_signed_case(rng: &mut Rng) -> Case {
 
 /// A name twice or more that may come once: one that every stream has, or another.
 fn single_case(rng: &mut Rng) -> Case {
-    let mut plan = plan_of(MOST_FIELDS - 2, rng);
+    let mut plan = plan_of(FIELDS - 2, rng);
     let name = *rng.pick(&SINGLE);
     for _ in 0..2 {
         let mut field = Field::new(name, if name == CODING { "chunked" } else { "4" });

@@ -1,5 +1,5 @@
-//! The cases of a seed, in order: first the fixed tables, then files of URIs, repeated fields and asked URIs, then damaged text, then
-//! damage at every place (in an order that the seed shuffles) and random streams by turns.
+//! The cases of a seed, in order: first the fixed tables, then files of URIs, repeated fields, asked URIs and longer heads, then damaged text,
+//! then damage at every place (in an order that the seed shuffles) and random streams by turns.
 
 use crate::asked;
 use crate::bounds;
@@ -7,6 +7,7 @@ use crate::case::{Answering, Case};
 use crate::damage::{self, Hit};
 use crate::example;
 use crate::inputs;
+use crate::longer;
 use crate::plan::Built;
 use crate::random;
 use crate::repeated;
@@ -24,18 +25,20 @@ pub enum Group {
     Inputs,
     Repeated,
     Asked,
+    Longer,
     Text,
     Damage,
     Mixed,
 }
 
-pub const GROUPS: [(&str, Group); 9] = [
+pub const GROUPS: [(&str, Group); 10] = [
     ("example", Group::Example),
     ("rules", Group::Rules),
     ("bounds", Group::Bounds),
     ("inputs", Group::Inputs),
     ("repeated", Group::Repeated),
     ("asked", Group::Asked),
+    ("longer", Group::Longer),
     ("text", Group::Text),
     ("damage", Group::Damage),
     ("mixed", Group::Mixed),
@@ -63,7 +66,7 @@ pub struct Sequence {
     number: u64,
     mixed: bool,
     fixed: VecDeque<Case>,
-    /// Files of a URI, heads with repeated fields, and asked URIs: they do not count, so that no other case depends on them.
+    /// Files of a URI, repeated fields, asked URIs and longer heads: they do not count, so that no other case depends on them.
     apart: VecDeque<Case>,
     /// How many cases of damaged text are left.
     texts: usize,
@@ -102,6 +105,9 @@ impl Sequence {
         }
         if has(Group::Asked) {
             apart.extend(asked::all(seed));
+        }
+        if has(Group::Longer) {
+            apart.extend(longer::all(seed));
         }
         let texts = if has(Group::Text) { wrong_text::COUNT } else { 0 };
         Sequence { seed, number: 0, mixed: has(Group::Mixed), fixed, apart, texts, rules, small, hits }

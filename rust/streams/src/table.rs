@@ -1,7 +1,7 @@
 //! Cases that are made one after another, each with its own cuts.
 
 use crate::case::{Answering, Case};
-use crate::head;
+use crate::limits;
 use crate::plan::{Built, Plan};
 use crate::rng::Rng;
 use second::event::Refusal;
@@ -27,7 +27,7 @@ impl<'a> Table<'a> {
     /// is reached, or else at its end.
     pub fn bad_head(&mut self, label: impl Into<String>, plan: &Plan) {
         let built = plan.build();
-        let taken = built.parts[0].bytes.len().min(head::LIMIT);
+        let taken = built.parts[0].bytes.len().min(limits::SECTION);
         self.refused(Refusal::head(taken), label, &built);
     }
 

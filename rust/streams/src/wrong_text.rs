@@ -5,15 +5,14 @@
 
 use crate::case::Case;
 use crate::damage::odd_byte;
-use crate::head::{Field, LIMIT};
+use crate::head::Field;
+use crate::limits::{before, FIELDS, LINE, SECTION};
 use crate::plan::{Built, Kind};
 use crate::random;
 use crate::rng::Rng;
 
 /// How many cases the group has.
 pub const COUNT: usize = 3600;
-
-const LINE_LIMIT: usize = 128;
 
 /// A case of a random stream.
 pub fn case(rng: &mut Rng) -> Case {
@@ -37,7 +36,7 @@ pub fn case(rng: &mut Rng) -> Case {
     let mut stream = built.bytes();
     if rng.one_in(2) {
         // A section that has lost its end then finds its limit, and not the end of the stream
-        stream.extend(b"x".repeat(LIMIT));
+        stream.extend(b"x".repeat(SECTION));
     }
     let verified = rng.one_in(6);
     Case::damaged(label, stream, &built, verified, rng)
@@ -96,8 +95,9 @@ const MOVE_END: Edit = ("a line end doubled, turned round or put in", |text, rng
 });
 
 /// Edits of heads and trailers alone.
-const STRETCH: Edit = ("a value stretched to about the limit, and a byte replaced", |text, rng| {
-    let length = LIMIT - 2 + rng.below(5);
+const STRETCH: Edit = ("a value stretched to about the limit, of now or before, and a byte replaced", |text, rng| {
+    let limit = *rng.pick(&[before::SECTION, SECTION, SECTION]);
+    let length = limit - 2 + rng.below(5);
     let colon = text.iter().rposition(|&byte| byte == b':').map_or(0, |place| place + 1);
     let lacking = length.saturating_sub(text.len());
     text.splice(colon..colon, b"p".repeat(lacking));
@@ -107,7 +107,8 @@ const STRETCH: Edit = ("a value stretched to about the limit, and a byte replace
 });
 const LONG_LINE: Edit = ("a byte far into a long line", |text, rng| {
     let colon = any_of(text, b":", rng).map_or(0, |place| place + 1);
-    let mut run = b"q".repeat(rng.between(100, 6000));
+    let most = *rng.pick(&[6000, 28_000]);
+    let mut run = b"q".repeat(rng.between(100, most));
     let place = rng.below(run.len());
     run[place] = wrong_byte(rng);
     text.splice(colon..colon, run);
@@ -138,8 +139,9 @@ const HEAD: [Edit; 4] = [
         text.remove(rng.below(13));
     }),
     ("too many fields, and perhaps a line that is none", |text, rng| {
-        let fields: Vec<u8> =
-            (0..rng.between(60, 70)).flat_map(|number| format!("g{number}:\r\n").into_bytes()).collect();
+        let fields: Vec<u8> = (0..rng.between(FIELDS - 4, FIELDS + 6))
+            .flat_map(|number| format!("g{number}:\r\n").into_bytes())
+            .collect();
         let end = text.len() - 2;
         text.splice(end..end, fields);
         if rng.one_in(2) {
@@ -157,7 +159,7 @@ const HEAD: [Edit; 4] = [
 
 const CHUNK_LINE: [Edit; 4] = [
     ("a line stretched to about the limit", |text, rng| {
-        let lacking = (LINE_LIMIT - 2 + rng.below(5)).saturating_sub(text.len());
+        let lacking = (LINE - 2 + rng.below(5)).saturating_sub(text.len());
         let place = rng.below(text.len() - 1);
         text.splice(place..place, b"A".repeat(lacking));
     }),

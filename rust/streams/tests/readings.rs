@@ -4,12 +4,13 @@
 use second::calls::{Calls, Contents, Holds, Outcome, Word};
 use second::event::{Event, Refusal};
 use second::files;
-use second::plain;
+use second::plain::{self, Kind};
 use second::reader::Reader;
 use second::ring::Record;
 use std::collections::BTreeMap;
 use streams::case::{Case, Expected};
 use streams::example;
+use streams::limits;
 use streams::plan::RingRecord;
 use streams::repeated;
 use streams::rng::Rng;
@@ -151,7 +152,7 @@ fn check(case: &Case, with_calls: bool) {
 #[test]
 fn reader_and_plain_reading_agree() {
     let groups: Vec<Group> = all_groups().into_iter().filter(|&group| group != Group::Text).collect();
-    for case in Sequence::new(11, &groups).take(3900).chain(Sequence::new(11, &[Group::Text]).take(1000)) {
+    for case in Sequence::new(11, &groups).take(4250).chain(Sequence::new(11, &[Group::Text]).take(1000)) {
         check(&case, false);
     }
 }
@@ -233,7 +234,8 @@ fn the_two_hashes_agree() {
 
 /// Holds filled with a mark, so that every byte that is written or left alone shows.
 fn marked() -> Contents {
-    Contents { head: vec![0xaa; 8192], block: vec![0xbb; 65_536], question: vec![0xcc; 8192] }
+    let Holds { head, block, question } = Holds::ENOUGH;
+    Contents { head: vec![0xaa; head], block: vec![0xbb; block], question: vec![0xcc; question] }
 }
 
 #[test]
@@ -308,7 +310,8 @@ fn values_and_counts_of_repeated_fields() {
                 built.head.fields.iter().filter(|line| same(&line.name)).map(|line| &line.value[..]).collect();
             let is_listed = plan.listed.iter().any(|name| same(name));
             let due = if is_listed { (values[0], values.len()) } else { (&b""[..], 0) };
-            assert_eq!((calls.value(8192, &field.name), calls.value_count(8192, &field.name)), due);
+            let hold = Holds::ENOUGH.head;
+            assert_eq!((calls.value(hold, &field.name), calls.value_count(hold, &field.name)), due);
             *if is_listed { &mut signed } else { &mut unsigned } += usize::from(values.len() > 1);
         }
     }
@@ -354,6 +357,42 @@ fn asked_uris_in_all_kinds_of_heads() {
         assert!(counts[kind] >= least, "{kind}: {}", counts[kind]);
     }
     assert!(!counts.contains_key("12"), "a key goes before a URI");
+}
+
+/// What the group of longer heads has, and that random streams have such heads and trailers too.
+#[test]
+fn longer_heads_and_trailers_of_all_kinds() {
+    let mut counts: BTreeMap<&str, usize> = BTreeMap::new();
+    let random = Sequence::new(5, &[Group::Mixed]).take(3000);
+    for (case, group) in Sequence::new(5, &[Group::Longer]).map(|case| (case, 0)).chain(random.map(|case| (case, 1))) {
+        let Expected::Exactly { lines, .. } = &case.expected else { continue };
+        let kind = match (lines[0].as_str(), case.has_longer_head()) {
+            (first, true) if first.starts_with("question") => ["accepted", "accepted in random streams"][group],
+            ("refused 16", true) => "another show",
+            (first, true) if first == format!("refused 3 at {}", limits::SECTION) => "too long",
+            (first, true) if first.starts_with("refused 3") => "wrong text or too many fields",
+            (first, false) if first.starts_with("question") && has_longer_trailer(&case) => "trailers",
+            _ => "others",
+        };
+        *counts.entry(kind).or_default() += 1;
+    }
+    println!("longer heads and trailers: {counts:?}");
+    for (kind, least) in [
+        ("accepted", 80),
+        ("accepted in random streams", 30),
+        ("another show", 12),
+        ("too long", 10),
+        ("wrong text or too many fields", 80),
+        ("trailers", 30),
+    ] {
+        assert!(counts[kind] >= least, "{kind}: {}", counts[kind]);
+    }
+}
+
+fn has_longer_trailer(case: &Case) -> bool {
+    let inputs = inputs(case).expect("good files");
+    let reading = plain::read(&case.stream, &inputs.ring, &inputs.uri, &[true; 2000], true);
+    matches!(reading.sections.last(), Some((Kind::Trailer, range)) if range.len() > limits::before::SECTION)
 }
 
 /// Each kind of section is refused inside its text, and those that can be without end are refused for their length too.

@@ -2,11 +2,8 @@
 
 use super::edits::*;
 use super::{Spoilt, Spot, Table, ANY_LINE, SIGNED_LINE};
-use crate::head::LIMIT;
+use crate::limits::{LINE, SECTION};
 use crate::plan::Plan;
-
-/// So many bytes of a line without an end are refused.
-const LINE_LIMIT: usize = 128;
 
 impl Table {
     /// Chunk lines whose text is wrong, wherever they stand.
@@ -23,7 +20,7 @@ impl Table {
         }
         self.text("a signature twice", SIGNED_LINE, |line| {
             let start = find(line, b";");
-            Spoilt::taken([&line[..line.len() - 2], &line[start..]].concat(), LINE_LIMIT)
+            Spoilt::taken([&line[..line.len() - 2], &line[start..]].concat(), LINE)
         });
     }
 
@@ -91,8 +88,8 @@ impl Table {
         }
         self.text("a bare line feed for the end", ANY_LINE, |line| Spoilt::after(&line[..line.len() - 2], b"\nxy\r\n"));
         self.text("a bare CR for the end", ANY_LINE, |line| Spoilt::after(&line[..line.len() - 1], b"xy\r\n"));
-        self.text("no end in 128 bytes", ANY_LINE, |line| {
-            Spoilt::taken([&line[..line.len() - 2], &b"A".repeat(200)[..], b"\r\n"].concat(), LINE_LIMIT)
+        self.text("no end within the limit", ANY_LINE, |line| {
+            Spoilt::taken([&line[..line.len() - 2], &b"A".repeat(200)[..], b"\r\n"].concat(), LINE)
         });
     }
 
@@ -201,9 +198,9 @@ impl Table {
             let (good, wrong) = bytes.split_at(good);
             self.text(format!("trailer: {label}"), &[Spot::Trailer], move |_| Spoilt::after(good, wrong));
         }
-        self.text("trailer: no end in 8,192 bytes", &[Spot::Trailer], |_| {
-            Spoilt::taken(b"A: b\r\n".repeat(2000), LIMIT)
+        self.text("trailer: no end within the limit", &[Spot::Trailer], |_| {
+            Spoilt::taken(b"A: b\r\n".repeat(SECTION / 6 + 1), SECTION)
         });
-        self.text("trailer: one endless line", &[Spot::Trailer], |_| Spoilt::taken(b"a".repeat(9000), LIMIT));
+        self.text("trailer: one endless line", &[Spot::Trailer], |_| Spoilt::taken(b"a".repeat(SECTION + 1), SECTION));
     }
 }

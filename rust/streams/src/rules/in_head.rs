@@ -4,6 +4,7 @@
 use super::edits::*;
 use super::{Spoilt, Spot, Table};
 use crate::head::{Field, Head};
+use crate::limits::FIELDS;
 use crate::plan::Plan;
 
 impl Table {
@@ -204,9 +205,9 @@ impl Table {
         });
         self.doubled("too many fields before version 5", |head| {
             head.set(VERSION, b"5");
-            fill_fields(head, 65);
+            fill_fields(head, FIELDS + 1);
         });
-        self.bad_last_line("bad text after too many fields", b"A: ", b"\x7f", |head| fill_fields(head, 70));
+        self.bad_last_line("bad text after too many fields", b"A: ", b"\x7f", |head| fill_fields(head, FIELDS + 6));
         self.bad_last_line("bad text after a doubled name", b"A", b"\t: x", |head| {
             head.fields.insert(0, Field::new("X-Ouinet-~", ""));
             head.fields.push(Field::new("X-Ouinet-~", ""));

@@ -1,4 +1,4 @@
-//! A table of the rules of paper 01, as request #102 amends them, each broken once, with the number
+//! A table of the rules of paper 01, as requests #102 and #108 amend them, each broken once, with the number
 //! that a reader must refuse with and, for 3 and 6, the place where the text goes wrong (request #106).
 //! A rule is broken on an otherwise honest stream, so what comes before is known as well.
 

@@ -6,7 +6,8 @@ use Prim.Native.Nat.{ℕ, _-_, _≤_, _<_}
 use native.Mathlib.Omega.{arith}
 use borrow.Author.Needs.{needs}
 use denote.Ref.{now}
-use lib.ListN.{length, drop, length-set}
+use lib.ListN.{length, drop, length-replicate, length-set}
+use Rattle.stream.specs.Limits.{fieldLimit}
 use Rattle.stream.specs.Lines.{textLines}
 use Rattle.text.proofs.LineLaws.{line-within, text-none, text-end}
 use Rattle.field_lines.specs.Reading.{answer}
@@ -18,7 +19,7 @@ use Rattle.fields.proofs.reading.read_fields.Statement.{statement}
 use Rattle.fields.proofs.reading.read_fields.Tie as tie
 
 abbrev Inv-loop : tie.InvT-loop
-Inv-loop text from entries₀ count₀ i₀ entries count i = (count ≤ 64) × (length entries ≡ 64) × AllWithin (length text) entries × (readOn [] (textLines (drop from text)) ≡ readOn (fieldsFrom text entries 0 count) (textLines (drop i text)))
+Inv-loop text from entries₀ count₀ i₀ entries count i = (count ≤ fieldLimit) × (length entries ≡ fieldLimit) × AllWithin (length text) entries × (readOn [] (textLines (drop from text)) ≡ readOn (fieldsFrom text entries 0 count) (textLines (drop i text)))
 
 abbrev μ-loop : tie.MeasureT-loop
 μ-loop text from entries₀ count₀ i₀ entries count i = length text - i
@@ -36,7 +37,7 @@ some-line : (c : tie.Else1 Inv-loop μ-loop) → c .before .before .before .loop
 some-line c = omega (arith, c .if1 .left, ends (c .before))
 
 -- there is room for one entry more
-room : (c : tie.Else2 Inv-loop μ-loop) → c .before .before .before .before .before .before .loop .count < 64
+room : (c : tie.Else2 Inv-loop μ-loop) → c .before .before .before .before .before .before .loop .count < fieldLimit
 room c =
     let r = c .before .before in
     let x = r .before in
@@ -60,7 +61,7 @@ no-entry-requires c κs = search needs
 
 loop-holds : tie.Need-loop-holds Inv-loop μ-loop
 unfolding fieldsFrom
-loop-holds c = (omega arith, refl, empty-within _ 64 (c .no-entry .result) (c .no-entry .ensures), refl)
+loop-holds c = (omega arith, length-replicate fieldLimit (c .no-entry .result), empty-within _ fieldLimit (c .no-entry .result) (c .no-entry .ensures), refl)
 
 line-end-requires : tie.Need-line-end-requires Inv-loop μ-loop
 line-end-requires c κs = search needs

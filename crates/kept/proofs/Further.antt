@@ -1,0 +1,85 @@
+-- Two readings of one stream whose sections are read the same, but for some that the one refuses: up to its refusal they are one reading.
+-- Assumes nothing.
+use mathlib.Core.Bool.{Bool, true, false}
+use mathlib.Core.List.{List, [], _∷_, _++_}
+use mathlib.Core.Path.{_≡_, refl, ap}
+use Prim.Native.Nat.{ℕ, zero, suc, _+_}
+use lib.ListN.{length}
+use Rattle.sections.specs.Reading.{Log, Event, last, go, tell, ask, stop, Grant, granted, final, Rules, uncut, cutAt, cut, answered, judged, ranOut, sections, readingAt, reading}
+use Rattle.sections.specs.Resuming.{Begins}
+use Rattle.stream.specs.Events.{Question, Release, LastWord, refused}
+use Rattle.stream.specs.Stream.{Context, Says}
+
+abbrev pub StreamLog : Type 0
+StreamLog = Log Question Release LastWord
+
+abbrev pub StreamRules : Type 0
+StreamRules = Rules Context Question Release LastWord
+
+-- the second log is the first; or the first ends in such a refusal, and the second begins with all before it
+pub data Further (lifted : ℕ → ℕ → Bool) (one other : StreamLog) : Type 0 where
+  same : other ≡ one → Further lifted one other
+  onward : (before : StreamLog) (at n place : ℕ) → lifted n place ≡ true → one ≡ before ++ (at, last (refused n place)) ∷ [] → Begins before other → Further lifted one other
+
+-- the next section, of the bytes bs: there is none by either rules, or both cut it off and judge it the same, or the first refuse it so
+pub data Alike (lifted : ℕ → ℕ → Bool) (R S : StreamRules) (c : Context) (bs : List ℕ) : Type 0 where
+  neither : cut (R .whole c) bs ≡ uncut → cut (S .whole c) bs ≡ uncut → Alike lifted R S c bs
+  alike : (f r : List ℕ) → cut (R .whole c) bs ≡ cutAt f r → cut (S .whole c) bs ≡ cutAt f r → S .judge c f ≡ R .judge c f → Alike lifted R S c bs
+  refuses : (f r : List ℕ) (n place : ℕ) → cut (R .whole c) bs ≡ cutAt f r → R .judge c f ≡ stop (refused n place) → lifted n place ≡ true → Alike lifted R S c bs
+
+module _ (lifted : ℕ → ℕ → Bool) where
+  pushed : (x : ℕ × Event Question Release LastWord) (one other : StreamLog) → Further lifted one other → Further lifted (x ∷ one) (x ∷ other)
+  pushed x one other (same e) = same (ap (λ (l : StreamLog). x ∷ l) e)
+  pushed x one other (onward before at n place t e b) =
+      onward (x ∷ before) at n place t (ap (λ (l : StreamLog). x ∷ l) e) (record { rest = b .rest; joined = ap (λ (l : StreamLog). x ∷ l) (b .joined) })
+
+module _ (lifted : ℕ → ℕ → Bool) (R S : StreamRules) (denied : S .denied ≡ R .denied) (unfinished : S .unfinished ≡ R .unfinished)
+    (each : (c : Context) (bs : List ℕ) → Alike lifted R S c bs) where
+  abbrev Next : Type 0
+  Next = Context → List Bool → StreamLog
+
+  abbrev NextFurther : Next → Next → Type 0
+  NextFurther next next′ = (c : Context) (answers : List Bool) → Further lifted (next c answers) (next′ c answers)
+
+  answered-further : (y : Grant Context Release LastWord) (at : ℕ) (answers : List Bool) (next next′ : Next) → NextFurther next next′
+      → Further lifted (answered R y at answers next) (answered S y at answers next′)
+  answered-further y at [] next next′ h = same refl
+  answered-further (granted e c) at (true ∷ answers) next next′ h = pushed lifted _ _ _ (h c answers)
+  answered-further (final l) at (true ∷ answers) next next′ h = same refl
+  answered-further y at (false ∷ answers) next next′ h = same (rw denied)
+
+  judged-further : (v : Says) (at : ℕ) (answers : List Bool) (next next′ : Next) → NextFurther next next′
+      → Further lifted (judged R v at answers next) (judged S v at answers next′)
+  judged-further (go c) at answers next next′ h = h c answers
+  judged-further (tell e c) at answers next next′ h = pushed lifted _ _ _ (h c answers)
+  judged-further (ask q y) at answers next next′ h = pushed lifted _ _ _ (answered-further y at answers next next′ h)
+  judged-further (stop l) at answers next next′ h = same refl
+
+  ran-out : (at : ℕ) (told : Bool) → Further lifted (ranOut R at told) (ranOut S at told)
+  ran-out at true = same (rw unfinished)
+  ran-out at false = same refl
+
+  -- at most k sections
+  abbrev FurtherIn : ℕ → Type 0
+  FurtherIn k =
+      (c : Context) (at : ℕ) (bs : List ℕ) (answers : List Bool) (told : Bool)
+      → Further lifted (sections R k c at bs answers told) (sections S k c at bs answers told)
+
+  section-further : (k : ℕ) → FurtherIn k → (c : Context) (at : ℕ) (bs : List ℕ) (answers : List Bool) (told : Bool) → Alike lifted R S c bs
+      → Further lifted (sections R (suc k) c at bs answers told) (sections S (suc k) c at bs answers told)
+  unfolding sections
+  section-further k rest c at bs answers told (neither e d) = rw (e, d) (ran-out (at + length bs) told)
+  section-further k rest c at bs answers told (alike f r e d j) =
+      rw (e, d, j) (judged-further (R .judge c f) (at + length f) answers _ _ (λ c′ answers′. rest c′ (at + length f) r answers′ told))
+  section-further k rest c at bs answers told (refuses f r n place e j t) =
+      onward [] (at + length f) n place t (rw (e, j)) (record { rest = _; joined = refl })
+
+  sections-further : (k : ℕ) → FurtherIn k
+  unfolding sections
+  sections-further zero c at bs answers told = ran-out (at + length bs) told
+  sections-further (suc k) c at bs answers told = section-further k (sections-further k) c at bs answers told (each c bs)
+
+  pub reading-further : (c : Context) (stream : List ℕ) (answers : List Bool) (told : Bool)
+      → Further lifted (reading R c stream answers told) (reading S c stream answers told)
+  unfolding reading readingAt
+  reading-further c stream answers told = sections-further (length stream) c 0 stream answers told
