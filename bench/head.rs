@@ -30,6 +30,8 @@ const LONGEST: usize = 32 * 1024;
 // How many fields a head has beside the six that the rules ask for, and how many names it must list.
 const OTHERS: usize = FIELDS - 6;
 const OWN_LISTED: usize = 5;
+// A head with short names has fewer bytes than these beside the values of its other fields.
+const BESIDE_VALUES: usize = 2600;
 
 // The URI that all heads here have, and that is asked for.
 const URI: &str = "/";
@@ -69,7 +71,7 @@ fn head_named(n: usize, name: fn(usize) -> String, width: usize) -> Vec<u8> {
 
 // The same with short names: their number and length do not depend on n, and the values share the rest.
 fn head(n: usize) -> Vec<u8> {
-    head_named(n, |i| format!("field-{i}"), (n - 2600) / OTHERS)
+    head_named(n, |i| format!("field-{i}"), (n - BESIDE_VALUES) / OTHERS)
 }
 
 // A head of 32 KiB with so many listed names of one line each, and one that has all other lines, in two cases by turns. The last of

@@ -1,8 +1,9 @@
 /*
- * include/ouinet_reader.h and the library behind it, from C: the example stream of crates/ouiread/data goes through in pieces of one
- * size, and what is said must be the lines of crates/ouiread/stdout; then wrong texts, and the place that is told of each; then heads with repeated
- * fields; then URIs that were asked for and are not the head's; then heads and trailers as long as they may be, and buffers as long as they had to be
- * before request #108; then the sizes that the header names, each beside one that is one byte short; then forged states, in buffers that are longer than named and marked beyond.
+ * include/ouinet_reader.h and the library behind it, from C: the example stream of crates/ouiread/data goes through in pieces of one size, and what
+ * is said must be the lines of crates/ouiread/stdout; then wrong texts, and the place that is told of each; then heads with repeated fields; then
+ * URIs that were asked for and are not the head's; then heads and trailers as long as they may be, and buffers as long as they had to be before
+ * request #108; then the sizes that the header names, each beside one that is one byte short; then forged states, in buffers that are longer than
+ * named and marked beyond.
  * tests/header.sh builds and runs it. Its last line is 'N passed, M failed'.
  */
 #include "ouinet_reader.h"
@@ -524,17 +525,18 @@ static void read_longer(const char *stream, size_t piece) {
 /* Each call with these lengths of head and question is refused with 2, and leaves state and buffers alone. */
 static void lend_less(size_t h, size_t q) {
     enum { B = OUINET_READER_BLOCK_SIZE };
-    static uint8_t heads[MOST], questions[MOST];
+    static uint8_t heads[MOST], blocks[B], questions[MOST];
     uint8_t before[STATE];
     memcpy(before, state, STATE);
     memcpy(heads, head, MOST);
+    memcpy(blocks, block, B);
     memcpy(questions, question, MOST);
     expect("a feed", is_refused(feed_with(STATE, h, B, q, ring, RECORD, RESULT), OUINET_READER_NO_ROOM));
     expect("takes nothing", number(result + OUINET_READER_RESULT_TAKEN) == 0);
     expect("an answer", is_refused(ouinet_reader_answer(state, STATE, head, h, block, B, question, q, 1, result, RESULT), OUINET_READER_NO_ROOM));
     expect("an end", is_refused(ouinet_reader_end(state, STATE, head, h, block, B, question, q, result, RESULT), OUINET_READER_NO_ROOM));
     expect("the state stays", !memcmp(before, state, STATE));
-    expect("and so do the buffers", !memcmp(heads, head, MOST) && !memcmp(questions, question, MOST));
+    expect("and so do the buffers", !memcmp(heads, head, MOST) && !memcmp(blocks, block, B) && !memcmp(questions, question, MOST));
 }
 
 /* Buffers that were long enough before, and ones that are a byte too short: for calls, and for what is handed out. */

@@ -1,14 +1,12 @@
 //! `compare PROGRAM_A PROGRAM_B --seed S --count N [--groups LIST] [--least-places P] [--least-repeated R] [--least-asked A]
-//! [--least-longer L] [--keep DIR] [--no-status-in-a]`: makes cases with the generator, runs both readers on each, and compares standard output and
-//! released bytes with each other, and these and the exit status with what the generator expects.
-//! Both are given `--where`, so that a refusal's line has the place of a wrong text. It counts the
-//! cases in which both refused a text at the same place, those in which both accepted a head with a
-//! name in several lines, those in which both refused a head because another URI was asked for, and those in
-//! which both accepted a head of more bytes or fields than paper 01 allowed; fewer than P, R, A or L are a
-//! failure. With the last option A is a program that has
-//! no exit status of its own: its complaints about a malformed file are held to the same rules, and it
-//! must end with 0. Cases that fail are kept in a folder each, under DIR or else under
-//! `compare-kept-S` in the folder for temporary files.
+//! [--least-longer L] [--keep DIR] [--no-status-in-a]`: makes cases with the generator, runs both readers on each, and compares
+//! standard output and released bytes with each other, and these and the exit status with what the generator expects. Both are
+//! given `--where`, so that a refusal's line has the place of a wrong text. It counts the cases in which both refused a text at
+//! the same place, those in which both accepted a head with a name in several lines, those in which both refused a head because
+//! another URI was asked for, and those in which both accepted a head of more bytes or fields than paper 01 allowed; fewer than
+//! P, R, A or L are a failure. With the last option A is a program that has no exit status of its own: its complaints about a
+//! malformed file are held to the same rules, and it must end with 0. Cases that fail are kept in a folder each, under DIR or
+//! else under `compare-kept-S` in the folder for temporary files.
 
 mod judge;
 mod run;

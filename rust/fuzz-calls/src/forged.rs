@@ -102,7 +102,11 @@ fn step(buffers: &mut Buffers, material: &Material, rng: &mut Rng) -> Result<(),
     let mut lengths = buffers.whole();
     let short = rng.one_in(8);
     if short {
-        lengths.holds.block = too_short(raw::BLOCK_SIZE, rng);
+        match rng.below(3) {
+            0 => lengths.holds.head = too_short(raw::HEAD_SIZE, rng),
+            1 => lengths.holds.block = too_short(raw::BLOCK_SIZE, rng),
+            _ => lengths.holds.question = too_short(raw::QUESTION_SIZE, rng),
+        }
     }
     let due = match first_number(buffers.state.get()) {
         _ if short => Some(2),

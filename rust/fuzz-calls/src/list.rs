@@ -15,8 +15,8 @@ use streams::rng::Rng;
 
 /// The longest pieces of a list: most lists are cut small.
 const MOST_PIECE: [usize; 8] = [1, 2, 5, 20, 100, 600, 5000, usize::MAX];
-/// A stream of more bytes is read in few calls, since the second reader starts afresh at each.
-const LONG: usize = 20_000;
+/// A stream of more bytes is read in few calls, since the second reader starts afresh at each. A head or trailer of any length is short.
+const LONG: usize = 40_000;
 /// Names that are asked for beside those that the head has and lists.
 const NAMES: [&[u8]; 9] = [
     b"X-Ouinet-URI",

@@ -24,7 +24,7 @@ fn some_lists() {
     assert!(tally.words.iter().all(|&count| count > 0), "a word never came");
     assert!(tally.places >= 200, "only {} refusals had a place", tally.places);
     assert!(tally.repeated >= 100, "only {} counts were above 1", tally.repeated);
-    assert!(tally.longer >= 20, "only {} accepted heads were longer than before", tally.longer);
+    assert!(tally.longer >= 60, "only {} accepted heads were longer than before", tally.longer);
     assert!(tally.refusals[16] >= 100, "only {} heads were another show's", tally.refusals[16]);
     assert!(tally.late_uris >= 1000, "only {} feeds after the head had another URI", tally.late_uris);
 }

@@ -49,22 +49,9 @@ impl Source {
         &self.file
     }
 
-    /// The URI that the head gives, before anything else is read; empty where it gives none. The head is read ahead for it: up to its end,
-    /// to as many bytes as a head may have, or to the end of the stream.
+    /// The URI that the head gives, before anything else is read; empty where it gives none. The head is read ahead for it.
     pub fn head_uri(&mut self) -> io::Result<Vec<u8>> {
-        let mut head = Vec::new();
-        let mut piece = [0; MOST_SECTION];
-        // An end that a read brings begins among its bytes or the three before them
-        let mut searched = 0;
-        while head.len() < MOST_SECTION && !head[searched..].windows(4).any(|four| four == b"\r\n\r\n") {
-            searched = head.len().saturating_sub(3);
-            match self.file.read(&mut piece[..MOST_SECTION - head.len()]) {
-                Ok(0) => break,
-                Ok(count) => head.extend_from_slice(&piece[..count]),
-                Err(error) if error.kind() == io::ErrorKind::Interrupted => (),
-                Err(error) => return Err(error),
-            }
-        }
+        let head = read_head(&mut self.file)?;
         let uri = head_uri(&head).unwrap_or_default().to_vec();
         self.ahead = Cursor::new(head);
         Ok(uri)
@@ -95,6 +82,25 @@ impl Read for Source {
         self.keep(&out[..count]);
         Ok(count)
     }
+}
+
+/// The beginning of a stream: up to the read that brings its head's end, to as many bytes as a head may have, or to the end of the stream. A
+/// sender may wait after its head, so nothing is read beyond.
+fn read_head(from: &mut impl Read) -> io::Result<Vec<u8>> {
+    let mut head = Vec::new();
+    let mut piece = [0; MOST_SECTION];
+    // An end that a read brings begins among its bytes or the three before them
+    let mut searched = 0;
+    while head.len() < MOST_SECTION && !head[searched..].windows(4).any(|four| four == b"\r\n\r\n") {
+        searched = head.len().saturating_sub(3);
+        match from.read(&mut piece[..MOST_SECTION - head.len()]) {
+            Ok(0) => break,
+            Ok(count) => head.extend_from_slice(&piece[..count]),
+            Err(error) if error.kind() == io::ErrorKind::Interrupted => (),
+            Err(error) => return Err(error),
+        }
+    }
+    Ok(head)
 }
 
 /// What standard input and output are called in a complaint, and any other file by its path.
@@ -146,5 +152,43 @@ fn is_same(path: &Path, open: &File) -> bool {
     match (path.metadata(), open.metadata()) {
         (Ok(a), Ok(b)) => a.is_file() && (a.dev(), a.ino()) == (b.dev(), b.ino()),
         _ => false,
+    }
+}
+
+#[cfg(test)]
+mod tests {
+    use super::*;
+    use std::vec::IntoIter;
+
+    /// One piece at each read, and nothing to read after the last one.
+    struct Pieces<'a>(IntoIter<&'a [u8]>);
+
+    impl Read for Pieces<'_> {
+        fn read(&mut self, out: &mut [u8]) -> io::Result<usize> {
+            let piece = self.0.next().ok_or_else(|| io::Error::other("read on after the head"))?;
+            out[..piece.len()].copy_from_slice(piece);
+            Ok(piece.len())
+        }
+    }
+
+    fn check(head: &[u8], pieces: Vec<&[u8]>) {
+        assert_eq!(read_head(&mut Pieces(pieces.into_iter())).expect("no read after the head"), head);
+    }
+
+    #[test]
+    fn nothing_is_read_after_a_head() {
+        let head = b"HTTP/1.1 200 OK\r\nA: b\r\n\r\n";
+        for one in 1..head.len() - 1 {
+            for two in one + 1..head.len() {
+                check(head, vec![&head[..one], &head[one..two], &head[two..]]);
+            }
+        }
+        check(head, head.chunks(1).collect());
+    }
+
+    #[test]
+    fn nor_after_as_many_bytes_as_a_head_may_have() {
+        let text = b"x".repeat(MOST_SECTION);
+        check(&text, text.chunks(1000).collect());
     }
 }

@@ -113,7 +113,7 @@ fn the_number_of_fields() {
     }
 }
 
-/// The first and the last of as many names as can be are one that may come once.
+/// Two far apart, of as many fields as can be, have one name that may come once.
 #[test]
 fn a_name_twice_in_a_head_of_many() {
     let [mut lines, _] = fields(126);

@@ -1,11 +1,11 @@
 //! Both sides of each limit of paper 01, and of those that request #108 has moved, before and after: the longest that is good and the
 //! shortest that is not.
 
-use crate::case::{Answering, Case};
+use crate::case::Case;
 use crate::example;
 use crate::head::Field;
 use crate::limits::{self, before, SECTION};
-use crate::plan::{blocks_of, Built, Kind, Plan, RingRecord, SizeStyle};
+use crate::plan::{blocks_of, Kind, Plan, RingRecord, SizeStyle};
 use crate::rng::Rng;
 use crate::table::Table;
 use second::event::Refusal;
@@ -33,20 +33,6 @@ impl Table<'_> {
     /// A plan whose head is refused for another reason than its text.
     fn head_refused(&mut self, number: u8, label: impl Into<String>, plan: &Plan) {
         self.refused(Refusal::plain(number), label, &plan.build());
-    }
-
-    /// Bytes for which the all-yes lines are these.
-    fn bytes(&mut self, label: impl Into<String>, stream: Vec<u8>, built: &Built, lines: Vec<String>) {
-        let case = Case::known(label, built.known(stream, lines), Answering::AllYes, self.rng);
-        self.cases.push(case);
-    }
-
-    /// Bytes in the place of a part and all after it: what came before, and then this refusal.
-    fn instead(&mut self, refusal: Refusal, label: impl Into<String>, built: &Built, part: usize, bytes: &[u8]) {
-        let before: Vec<u8> = built.parts[..part].iter().flat_map(|part| part.bytes.clone()).collect();
-        let mut lines = built.lines_before(part);
-        lines.push(refusal.to_string());
-        self.bytes(label, [&before, bytes].concat(), built, lines);
     }
 
     fn head_lengths(&mut self) {

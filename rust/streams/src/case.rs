@@ -223,7 +223,7 @@ impl Case {
         (0..names.len()).any(is_there_before)
     }
 
-    /// Whether the stream's head has more bytes or fields than paper 01 allowed before request #108.
+    /// See `head::is_longer`.
     pub fn has_longer_head(&self) -> bool {
         head::is_longer(&self.stream)
     }

@@ -73,17 +73,19 @@ impl Table<'_> {
 
     /// Two of as many fields as can be have one name.
     fn doubled_far_apart(&mut self) {
-        let last = FIELDS - 1;
+        let (last, edge) = (FIELDS - 1, before::FIELDS);
         let own = example::plan().fields.len();
         for (label, name) in NAMES {
-            for (one, other) in [(own, last), (own, own + 1), (last - 1, last), (63, 64), (64, 65), (63, 127)] {
+            for (one, other) in
+                [(own, last), (own, own + 1), (last - 1, last), (edge - 1, edge), (edge, edge + 1), (edge - 1, last)]
+            {
                 let mut plan = plan_of(FIELDS, name);
                 // It is listed under the first one's name, if at all
                 let lost = plan.fields[other].name.clone();
                 plan.listed.retain(|listed| *listed != lost);
                 plan.fields[other].name = swapped_case(&plan.fields[one].name);
                 let label = format!("fields {one} and {other} of {FIELDS} have one name, {label}");
-                if label.ends_with("ours") {
+                if plan.fields[one].name.starts_with(b"X-Ouinet-") {
                     self.bad_head(label, &plan);
                 } else {
                     self.good(label, &plan);
@@ -96,8 +98,8 @@ impl Table<'_> {
     fn long_lists(&mut self) {
         for length in [before::SECTION + 1, 20_000, SECTION - 1, SECTION, SECTION + 1] {
             let mut plan = plan_of(FIELDS, |number| format!("n{number}"));
-            let width = (length - head_length(&plan)) / (2 * LISTED);
             let own = example::plan();
+            let width = (length - head_length(&plan)) / (2 * (LISTED - 2 - own.listed.len()));
             let fields = plan.fields[own.fields.len()..].iter_mut();
             for (field, listed) in fields.zip(&mut plan.listed[own.listed.len()..]) {
                 field.name.extend(b"a".repeat(width));
@@ -171,15 +173,11 @@ impl Table<'_> {
             let mut plan = example::plan();
             plan.trailer = trailer_of(length, b"");
             self.good(format!("a trailer of {length} bytes in many lines"), &plan);
+            let built = plan.build();
             for (line, place) in ODD_LINES.iter().step_by(5) {
-                plan.trailer = trailer_of(length, line);
                 let refusal = Refusal::frame(length - 2 - line.len() - 2 + place);
-                let built = plan.build();
-                let mut lines = built.lines_before(built.places(Kind::Trailer)[0]);
-                lines.push(refusal.to_string());
                 let label = format!("a trailer of {length} bytes, and its last line is \"{}\"", line.escape_ascii());
-                let case = Case::known(label, built.known(built.bytes(), lines), Answering::AllYes, self.rng);
-                self.cases.push(case);
+                self.instead(refusal, label, &built, built.places(Kind::Trailer)[0], &trailer_of(length, line));
             }
         }
     }
@@ -230,7 +228,8 @@ pub fn plan(rng: &mut Rng) -> Plan {
         fill_head(&mut plan, length, rng);
     }
     if !(many || long) {
-        let length = rng.between(before::SECTION + 1, SECTION);
+        // It gets up to a hundred bytes less
+        let length = rng.between(before::SECTION + 101, SECTION);
         plan.trailer = random::long_trailer(length, rng);
     }
     plan

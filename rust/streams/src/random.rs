@@ -89,6 +89,12 @@ fn plan_with(block_size: usize, blocks: Vec<Vec<u8>>, rng: &mut Rng) -> Plan {
     }
     rng.shuffle(&mut plan.listed);
     rng.shuffle(&mut plan.fields);
+    disguise(&mut plan, rng);
+    plan
+}
+
+/// Names in any case, and blanks at the values' ends.
+fn disguise(plan: &mut Plan, rng: &mut Rng) {
     for name in &mut plan.listed {
         change_case(name, rng);
     }
@@ -99,7 +105,6 @@ fn plan_with(block_size: usize, blocks: Vec<Vec<u8>>, rng: &mut Rng) -> Plan {
             field.right = rng.pick(&BLANKS).to_vec();
         }
     }
-    plan
 }
 
 /// The fields that every stream has, the signatures still empty.

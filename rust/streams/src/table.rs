@@ -36,4 +36,18 @@ impl<'a> Table<'a> {
         let case = Case::whole(label, &plan.build(), Answering::Verified, self.rng);
         self.cases.push(case);
     }
+
+    /// Bytes for which the all-yes lines are these.
+    pub fn bytes(&mut self, label: impl Into<String>, stream: Vec<u8>, built: &Built, lines: Vec<String>) {
+        let case = Case::known(label, built.known(stream, lines), Answering::AllYes, self.rng);
+        self.cases.push(case);
+    }
+
+    /// Bytes in the place of a part and all after it: what came before, and then this refusal.
+    pub fn instead(&mut self, refusal: Refusal, label: impl Into<String>, built: &Built, part: usize, bytes: &[u8]) {
+        let before: Vec<u8> = built.parts[..part].iter().flat_map(|part| part.bytes.clone()).collect();
+        let mut lines = built.lines_before(part);
+        lines.push(refusal.to_string());
+        self.bytes(label, [&before, bytes].concat(), built, lines);
+    }
 }

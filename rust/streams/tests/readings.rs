@@ -367,7 +367,7 @@ fn longer_heads_and_trailers_of_all_kinds() {
     for (case, group) in Sequence::new(5, &[Group::Longer]).map(|case| (case, 0)).chain(random.map(|case| (case, 1))) {
         let Expected::Exactly { lines, .. } = &case.expected else { continue };
         let kind = match (lines[0].as_str(), case.has_longer_head()) {
-            (first, true) if first.starts_with("question") => ["accepted", "accepted in random streams"][group],
+            (first, true) if first.starts_with("question") => ["asked about", "asked about in random streams"][group],
             ("refused 16", true) => "another show",
             (first, true) if first == format!("refused 3 at {}", limits::SECTION) => "too long",
             (first, true) if first.starts_with("refused 3") => "wrong text or too many fields",
@@ -378,8 +378,8 @@ fn longer_heads_and_trailers_of_all_kinds() {
     }
     println!("longer heads and trailers: {counts:?}");
     for (kind, least) in [
-        ("accepted", 80),
-        ("accepted in random streams", 30),
+        ("asked about", 80),
+        ("asked about in random streams", 30),
         ("another show", 12),
         ("too long", 10),
         ("wrong text or too many fields", 80),
