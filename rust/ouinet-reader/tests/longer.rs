@@ -1,33 +1,20 @@
 //! Heads and trailers at their limits, and buffers that are a byte too short or as long as they had to be before request #108. The heads are
 //! the example's with lines put in; all answers are yes, so the signature need not fit.
 
-use ouinet_reader::raw::{self, Lent, Outcome};
-use ouinet_reader::{Event, Reader, Refusal, Ring};
+mod common;
 
-const STREAM: &[u8] = include_bytes!("../../../crates/ouiread/data/stream");
-const URI: &[u8] = include_bytes!("../../../crates/ouiread/data/uri");
-const RING: &[u8] = include_bytes!("../../../crates/ouiread/data/ring");
+use common::{head_with, ring, OWN_FIELDS, STREAM, URI};
+use ouinet_reader::raw::{self, Lent, Outcome};
+use ouinet_reader::{Event, Reader, Refusal};
+
 const PIECES: [usize; 4] = [1, 1000, 8192, 65_536];
-/// How many fields the example's head has.
-const OWN_FIELDS: usize = 9;
 /// Lengths of a head or question buffer that will not do.
 const TOO_SHORT: [usize; 5] = [0, 8191, 8192, 8193, 32_767];
 
-fn ring() -> Ring {
-    Ring::parse(RING).expect("a good ring")
-}
-
-/// The example's head with these lines behind its status line.
-fn head_with(lines: &str) -> Vec<u8> {
-    let end = STREAM.windows(4).position(|four| four == b"\r\n\r\n").expect("a head") + 4;
-    let status_line = STREAM.windows(2).position(|two| two == b"\r\n").expect("a line") + 2;
-    [&STREAM[..status_line], lines.as_bytes(), &STREAM[status_line..end]].concat()
-}
-
 /// The example's head made so long.
 fn head_of(length: usize) -> Vec<u8> {
-    let lacking = length - head_with("Fill:\r\n").len();
-    head_with(&format!("Fill:{}\r\n", "x".repeat(lacking)))
+    let lacking = length - head_with("Fill:\r\n", "").len();
+    head_with(&format!("Fill:{}\r\n", "x".repeat(lacking)), "")
 }
 
 /// The last event of a stream, as long as it is the same in pieces of any length: the refusal, or nothing for a closed one. And how many
@@ -88,17 +75,17 @@ fn lengths_of_heads() {
 fn numbers_of_fields() {
     let names = |count| (OWN_FIELDS..count).map(|number| format!("f{number}: x\r\n")).collect::<String>();
     for count in [64, 65, 127, 128] {
-        is_good(&stream_of(&head_with(&names(count)), b"\r\n"));
+        is_good(&stream_of(&head_with(&names(count), ""), b"\r\n"));
     }
     for count in [129, 200] {
-        let head = head_with(&names(count));
+        let head = head_with(&names(count), "");
         is_refused(&head, Refusal::BadHead { at: head.len() as u64 }, head.len());
     }
 }
 
 #[test]
 fn trailers() {
-    let head = head_with("");
+    let head = head_with("", "");
     let trailer = |length: usize| [b"a:", &b"x".repeat(length - 6)[..], b"\r\n\r\n"].concat();
     for length in [8192, 8193, 32_767, 32_768] {
         is_good(&stream_of(&head, &trailer(length)));

@@ -1,28 +1,15 @@
 //! Heads in which a field is repeated: what is asked about, what is handed out, and which fields may not be. The heads are the
 //! example's with lines put in; all answers are yes, so the signature need not fit.
 
-use ouinet_reader::{raw, Event, Reader, Refusal, Ring};
+mod common;
 
-const STREAM: &[u8] = include_bytes!("../../../crates/ouiread/data/stream");
-const URI: &[u8] = include_bytes!("../../../crates/ouiread/data/uri");
-const RING: &[u8] = include_bytes!("../../../crates/ouiread/data/ring");
+use common::{head_with, ring, OWN_FIELDS, URI};
+use ouinet_reader::{raw, Event, Reader, Refusal};
+
 const PIECES: [usize; 4] = [1, 3, 100, 65_536];
-/// How many fields the example's head has.
-const OWN_FIELDS: usize = 9;
-
-/// The example's head with these lines behind the status line, and these words behind the last listed name.
-fn head_with(lines: &str, listed: &str) -> Vec<u8> {
-    let end = STREAM.windows(4).position(|four| four == b"\r\n\r\n").expect("a head") + 4;
-    let head = std::str::from_utf8(&STREAM[..end]).expect("a head of text");
-    let list = "content-type\"";
-    assert!(head.contains(list), "the example's list ends in another name");
-    let listed = head.replacen(list, &format!("content-type{listed}\""), 1);
-    listed.replacen("\r\n", &format!("\r\n{lines}"), 1).into_bytes()
-}
-
 /// A reader that was fed the head in pieces, and its last word.
 fn fed(head: &[u8], piece: usize) -> (Reader, Option<Refusal>) {
-    let mut reader = Reader::new(Ring::parse(RING).expect("a good ring"), URI);
+    let mut reader = Reader::new(ring(), URI);
     let mut refused = None;
     for piece in head.chunks(piece) {
         match reader.feed(piece).expect("in turn").event {
@@ -36,7 +23,7 @@ fn fed(head: &[u8], piece: usize) -> (Reader, Option<Refusal>) {
 
 /// The message of the question about a head.
 fn message(head: &[u8]) -> String {
-    let mut reader = Reader::new(Ring::parse(RING).expect("a good ring"), URI);
+    let mut reader = Reader::new(ring(), URI);
     match reader.feed(head).expect("in turn").event {
         Some(Event::Question(question)) => String::from_utf8(question.message.to_vec()).expect("text"),
         other => panic!("{other:?}"),
@@ -94,7 +81,7 @@ fn the_first_value_and_the_count() {
 #[test]
 fn no_count_from_short_buffers() {
     let head = head_with("Vary: a\r\nVary: b\r\n", " vary");
-    let ring = Ring::parse(RING).expect("a good ring");
+    let ring = ring();
     let (mut state, mut result) = (vec![0; raw::STATE_SIZE], vec![0; raw::RESULT_SIZE]);
     let mut holds = [vec![0; raw::HEAD_SIZE], vec![0; raw::BLOCK_SIZE], vec![0; raw::QUESTION_SIZE]];
     raw::fresh(&mut state);

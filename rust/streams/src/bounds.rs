@@ -42,11 +42,7 @@ impl Table<'_> {
             let reason = padded(length, "reason");
             for (label, plan) in [("an unsigned value", unsigned), ("a signed value", signed), ("the reason", reason)] {
                 let label = format!("a head of {length} bytes through {label}");
-                if length <= SECTION {
-                    self.good(label, &plan);
-                } else {
-                    self.bad_head(label, &plan);
-                }
+                self.good_if(length <= SECTION, label, &plan);
             }
         }
         let built = example::plan().build();
@@ -69,11 +65,7 @@ impl Table<'_> {
         for count in around(before::FIELDS).chain([100]).chain(around(limits::FIELDS)).chain([200]) {
             let mut plan = example::plan();
             fill(&mut plan, count);
-            if count <= limits::FIELDS {
-                self.good(format!("{count} fields"), &plan);
-            } else {
-                self.bad_head(format!("{count} fields"), &plan);
-            }
+            self.good_if(count <= limits::FIELDS, format!("{count} fields"), &plan);
         }
     }
 
@@ -283,7 +275,7 @@ pub(crate) fn padded(length: usize, place: &str) -> Plan {
     if place == "signed" {
         plan.list("X-Padding");
     }
-    let lacking = length - plan.build().parts[0].bytes.len();
+    let lacking = length - plan.head_length();
     match place {
         "reason" => plan.reason.extend(b"r".repeat(lacking)),
         _ => plan.field("X-Padding").value = b"p".repeat(lacking),

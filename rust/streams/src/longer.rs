@@ -85,11 +85,7 @@ impl Table<'_> {
                 plan.listed.retain(|listed| *listed != lost);
                 plan.fields[other].name = swapped_case(&plan.fields[one].name);
                 let label = format!("fields {one} and {other} of {FIELDS} have one name, {label}");
-                if plan.fields[one].name.starts_with(b"X-Ouinet-") {
-                    self.bad_head(label, &plan);
-                } else {
-                    self.good(label, &plan);
-                }
+                self.good_if(!plan.fields[one].name.starts_with(b"X-Ouinet-"), label, &plan);
             }
         }
     }
@@ -99,20 +95,15 @@ impl Table<'_> {
         for length in [before::SECTION + 1, 20_000, SECTION - 1, SECTION, SECTION + 1] {
             let mut plan = plan_of(FIELDS, |number| format!("n{number}"));
             let own = example::plan();
-            let width = (length - head_length(&plan)) / (2 * (LISTED - 2 - own.listed.len()));
+            let width = (length - plan.head_length()) / (2 * (LISTED - 2 - own.listed.len()));
             let fields = plan.fields[own.fields.len()..].iter_mut();
             for (field, listed) in fields.zip(&mut plan.listed[own.listed.len()..]) {
                 field.name.extend(b"a".repeat(width));
                 listed.clone_from(&field.name);
             }
-            let lacking = length - head_length(&plan);
-            plan.fields.last_mut().expect("a field").value.extend(b"p".repeat(lacking));
+            plan.lengthen_last(length);
             let label = format!("a head of {length} bytes, most of them in listed names");
-            if length <= SECTION {
-                self.good(label, &plan);
-            } else {
-                self.bad_head(label, &plan);
-            }
+            self.good_if(length <= SECTION, label, &plan);
         }
     }
 
@@ -183,10 +174,6 @@ impl Table<'_> {
     }
 }
 
-fn head_length(plan: &Plan) -> usize {
-    plan.build().parts[0].bytes.len()
-}
-
 /// A trailer of so many bytes, most of them in short lines, the last of which is this one unless that is empty.
 fn trailer_of(length: usize, last: &[u8]) -> Vec<u8> {
     let end = if last.is_empty() { b"\r\n".to_vec() } else { [last, b"\r\n\r\n"].concat() };
@@ -241,7 +228,7 @@ fn fill_head(plan: &mut Plan, length: usize, rng: &mut Rng) {
     if rng.one_in(2) {
         plan.list("fill");
     }
-    let lacking = length.saturating_sub(head_length(plan));
+    let lacking = length.saturating_sub(plan.head_length());
     plan.field("Fill").value = b"f".repeat(lacking);
 }
 

@@ -162,6 +162,17 @@ impl Plan {
         found.unwrap_or_else(|| panic!("the plan has no field {name}"))
     }
 
+    /// How many bytes the head has.
+    pub fn head_length(&self) -> usize {
+        self.build().parts[0].bytes.len()
+    }
+
+    /// Makes the head so long by the value of its last field.
+    pub fn lengthen_last(&mut self, length: usize) {
+        let lacking = length - self.head_length();
+        self.fields.last_mut().expect("a field").value.extend(b"p".repeat(lacking));
+    }
+
     /// The value of the URI's field; nothing if there is no such field.
     pub fn uri(&self) -> Vec<u8> {
         let found = self.fields.iter().find(|field| field.name.eq_ignore_ascii_case(b"X-Ouinet-URI"));

@@ -155,11 +155,7 @@ impl Table<'_> {
                 let plan = plan_with(&vec![("Vary", "x"); count - own], listed);
                 let signed = if listed.is_empty() { "not signed" } else { "signed" };
                 let label = format!("{count} fields, most of one name, {signed}");
-                if count <= FIELDS {
-                    self.good(label, &plan);
-                } else {
-                    self.bad_head(label, &plan);
-                }
+                self.good_if(count <= FIELDS, label, &plan);
             }
         }
         let empty = vec![("a", ""); FIELDS - example::plan().fields.len()];
@@ -188,14 +184,9 @@ impl Table<'_> {
         for length in [before::SECTION, before::SECTION + 1, SECTION - 1, SECTION, SECTION + 1] {
             for count in [2, most] {
                 let mut plan = plan_with(&vec![("Via", "1.1 relay"); count], &["via"]);
-                let lacking = length - plan.build().parts[0].bytes.len();
-                plan.fields.last_mut().expect("a line").value.extend(b"p".repeat(lacking));
+                plan.lengthen_last(length);
                 let label = format!("a head of {length} bytes with {count} lines of one name");
-                if length <= SECTION {
-                    self.good(label, &plan);
-                } else {
-                    self.bad_head(label, &plan);
-                }
+                self.good_if(length <= SECTION, label, &plan);
             }
         }
     }

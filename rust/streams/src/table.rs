@@ -31,6 +31,15 @@ impl<'a> Table<'a> {
         self.refused(Refusal::head(taken), label, &built);
     }
 
+    /// A plan whose stream is good where that is said, and whose head else has too much, as `bad_head` has it.
+    pub fn good_if(&mut self, is_good: bool, label: impl Into<String>, plan: &Plan) {
+        if is_good {
+            self.good(label, plan);
+        } else {
+            self.bad_head(label, plan);
+        }
+    }
+
     /// A plan whose stream is good.
     pub fn good(&mut self, label: impl Into<String>, plan: &Plan) {
         let case = Case::whole(label, &plan.build(), Answering::Verified, self.rng);
