@@ -8,7 +8,7 @@ use Prim.Native.Nat.{ℕ, _-_, _≤_, _<_}
 use native.Mathlib.Omega.{arith}
 use lib.Dec.{eqb, leb}
 use lib.ListN.{length, take, drop, length-append, take-append-drop}
-use lib.Seq.{take-append-seam, take-append-le}
+use lib.Seq.{take-append-seam}
 use Rattle.sections.specs.Reading.{Event, last, stop, Cut, uncut, cutAt, cut}
 use Rattle.sections.specs.Resuming.{Begins}
 use Rattle.sections.proofs.Cuts.{NoneBelow, IsCut, cut-is, cut-at, cut-none}
@@ -23,7 +23,7 @@ use Rattle.stream.specs.Trailer.{endsTrailer, isWholeTrailer, isTrailer}
 use Rattle.stream.proofs.PlaceCases.{unended-places}
 use Rattle.stream.proofs.Truth.{left-fails, right-fails}
 use Rattle.exactness.specs.Telling.{Stands}
-use Rattle.exactness.proofs.Ends.{limited, none-short}
+use Rattle.exactness.proofs.Ends.{limited, none-short, none-front}
 use Rattle.kept.specs.Kept.{NeverRefused, NeverRefusedAt, SameUnder, NoneLost, UnderThese}
 use Rattle.kept.specs.OtherHeads.{judgeWith}
 use Rattle.kept.specs.OtherLimits.{SectionLimits, theseLimits, isWholeUnder, textRulesUnder, faultUnder, judgeHeadUnder, rulesUnder, readingUnder}
@@ -46,7 +46,7 @@ module _ (p : List ℕ → Bool) (bs f r : List ℕ) (e : cut p bs ≡ cutAt f r
   is-cut = rw e at (cut-is p bs)
 
   none-before : NoneBelow p f (length f)
-  none-before n x y = rw (← take-append-le n f r (omega arith), is-cut .0) (is-cut .3 n x y)
+  none-before = none-front p f r bs (is-cut .0) (is-cut .3)
 
   -- and so it is cut off by q, where q holds of it
   same-cut : (q : List ℕ → Bool) → HoldsLess p q → q f ≡ true → cut q bs ≡ cutAt f r

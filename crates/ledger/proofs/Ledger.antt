@@ -264,16 +264,7 @@ hexBytes (a ∷ b ∷ l) = hexValue (a ∷ b ∷ []) ∷ hexBytes l
 pub headTexts : List Row
 headTexts =
     -- sections and their ends
-    row 1 "a head of just 32,768 bytes is good"
-    (length (longHead 32_768) ∷ asNumber (isWholeHead (take 32_767 (longHead 32_768))) ∷ headFault terms (longHead 32_768) ∷ [])
-    (32_768 ∷ 0 ∷ 0 ∷ [])
-    ∷ row 1 "without its end it is whole at 32,768 bytes, and is 3"
-    (asNumber (isWholeHead (take 32_767 (longHead 32_769)))
-    ∷ asNumber (isWholeHead (take 32_768 (longHead 32_769)))
-    ∷ headFault terms (take 32_768 (longHead 32_769))
-    ∷ [])
-    (0 ∷ 1 ∷ 3 ∷ [])
-    ∷ row 1 "a bad byte changes nothing until the end has come, which is at the first empty line"
+    row 1 "a bad byte changes nothing until the end has come, which is at the first empty line"
     (placed (plainReading terms (0 ∷ octets "x\r\n\n\r\r\n") [] false)
     ++ placed (plainReading terms (0 ∷ octets "x\r\n\n\r\r\n\r\n\r\n") [] false)
     ++ placed (plainReading terms (octets "\r\n\r\n") [] false))
@@ -302,13 +293,6 @@ headTexts =
     ∷ row 5 "else it goes on to CR LF CR LF"
     (trailers ("A: b\r\n" ∷ "A: b\r\n\r\n" ∷ "A:\r\na:\r\n\r\nX" ∷ "\rA: b\r\n" ∷ "\rA: b\r\n\r\n" ∷ "\n\r\n\r\n" ∷ "A\r\n\r\n" ∷ " A: b\r\n\r\n" ∷ ": b\r\n\r\n" ∷ []))
     (8 ∷ 4 ∷ 5 ∷ 10 ∷ 4 ∷ 5 ∷ 9 ∷ 5 ∷ 6 ∷ 5 ∷ 5 ∷ 6 ∷ 5 ∷ 5 ∷ 6 ∷ 9 ∷ 5 ∷ 6 ∷ 7 ∷ 5 ∷ 6 ∷ [])
-    ∷ row 5 "a trailer of 32,768 bytes is good; without its end it is whole there, and is 6"
-    (asNumber (isTrailer (octets "A:" ++ replicate 32_762 97 ++ octets "\r\n\r\n"))
-    ∷ asNumber (isWholeTrailer (octets "A:" ++ replicate 32_765 97))
-    ∷ asNumber (isWholeTrailer (octets "A:" ++ replicate 32_766 97))
-    ∷ asNumber (isTrailer (octets "A:" ++ replicate 32_766 97))
-    ∷ [])
-    (1 ∷ 0 ∷ 1 ∷ 0 ∷ [])
     ∷ row 5 "its fields are not counted" (asNumber (isTrailer (asLines (extraLines (extraNames 129)))) ∷ []) (1 ∷ [])
     ∷ row 6 "what comes after the last word is not read" (body yes true (hello ++ signed "0" ++ octets "\r\nHTTP/1.1"))
     (109 ∷ 1 ∷ 70 ∷ 7 ∷ 109 ∷ 3 ∷ 0 ∷ 5 ∷ 111 ∷ 4 ∷ 5 ∷ [])
@@ -341,7 +325,6 @@ headTexts =
     ∷ row 8 "no field is good text, an empty line for the status line is not"
     (headFault terms (octets "HTTP/1.1 200 OK\r\n\r\n") ∷ headFault terms (octets "\r\nHTTP/1.1 200 OK\r\n\r\n") ∷ headFault terms (octets "\r\n\r\n") ∷ [])
     (4 ∷ 3 ∷ 3 ∷ [])
-    ∷ row 8 "128 fields, and 129" (fault (headLines ++ extraLines (extraNames 120)) ++ fault (headLines ++ extraLines (extraNames 121))) (0 ∷ 3 ∷ [])
     ∷ row 8 "a doubled name, in another case, signed or not, and names that are only alike"
     (fault (headLines ++ (octets "X-OUINET-URI: x") ∷ [])
     ++ fault (headLines ++ (octets "x-ouinet-a: x") ∷ (octets "X-Ouinet-A: y") ∷ [])
