@@ -29,6 +29,7 @@ struct told {
     uint64_t body;
     unsigned answers;
     int accepted;
+    int asks_of_end; /* whether the last question was about the body's end: the text of a head, after the head's own */
     int over;
     int is_asked_for; /* whether the URI asked for is the head's */
 };
@@ -161,13 +162,16 @@ static void tell(struct told *told, uint8_t word) {
         told->body += second;
         digest(told, l->block, block);
     }
-    if (word == OUINET_READER_CLOSED) must(first == told->body, "the total is that of the blocks");
+    if (word == OUINET_READER_CLOSED || word == OUINET_READER_COMPLETE) must(first == told->body, "the total is that of the blocks");
+    if (word == OUINET_READER_COMPLETE) must(told->asks_of_end, "the last yes is about the end");
     if (word == OUINET_READER_REFUSED) {
         check_place(told->place);
         must(first != OUINET_READER_OTHER_URI || !told->is_asked_for, "the head's own URI is not refused");
+        must(first < OUINET_READER_BAD_ENDS || first > OUINET_READER_OTHER_DIGEST || told->accepted, "the end is judged after the head");
     }
     if (word == OUINET_READER_QUESTION) {
         must(told->is_asked_for, "a head of another URI is not asked about");
+        told->asks_of_end = told->accepted && first > 0 && l->question[0] == '(';
         digest(told, l->question, first);
     }
     if (word == OUINET_READER_HEAD) {
@@ -184,7 +188,7 @@ static void tell(struct told *told, uint8_t word) {
     digest(told, (const uint8_t *)&told->place, sizeof told->place);
     digest(told, &word, 1);
     digest(told, l->result + OUINET_READER_RESULT_FIRST, OUINET_READER_RESULT_SIZE - OUINET_READER_RESULT_FIRST);
-    told->over = word == OUINET_READER_CLOSED || word == OUINET_READER_REFUSED;
+    told->over = word == OUINET_READER_CLOSED || word == OUINET_READER_COMPLETE || word == OUINET_READER_REFUSED;
     feature_of_word(word, first);
 }
 
@@ -237,7 +241,7 @@ static void forged(const struct plan *plan, const uint8_t *bytes, size_t size) {
         uint8_t word = is_answer ? answer(plan, !(plan->lengths & 16)) : feed(plan, bytes, length);
         if (word == OUINET_READER_SHORT) return;
         uint64_t taken = taken_count();
-        must(word <= OUINET_READER_REFUSED && taken <= (is_answer ? 0 : length), "a word, and no more taken than there was");
+        must(word <= OUINET_READER_COMPLETE && taken <= (is_answer ? 0 : length), "a word, and no more taken than there was");
         must(ouinet_reader_block(l->state, OUINET_READER_STATE_SIZE, l->block, OUINET_READER_BLOCK_SIZE) <=
                  OUINET_READER_BLOCK_SIZE,
              "a block lies within its buffer");

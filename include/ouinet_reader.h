@@ -8,7 +8,7 @@
  * caller answers. All that it works on is lent to each call:
  *
  *     state      what it keeps from call to call, OUINET_READER_STATE_SIZE bytes
- *     head       the head of the response, as it comes
+ *     head       the head of the response, as it comes; it is read again at the trailer's end
  *     block      the block under way, and at the end the trailer
  *     question   the message that a signature is to be verified over
  *     ring       the keys that are trusted (feed alone)
@@ -22,6 +22,8 @@
  * every state; those of head, block and question are not read either.
  * A call that is refused with 1 or 2 leaves the same state; bytes that no call has written, and that say the same state in another way,
  * may come back in the usual one.
+ * Between the calls of one stream leave the bytes of head, block and question as they are: a head buffer that no longer holds a good
+ * head makes the stream end in OUINET_READER_BAD_ENDS, whether or not it has fields about its end.
  *
  * A sitting (docs/INTERFACE.md has it at length):
  *
@@ -34,7 +36,7 @@
  *                 verify; word = ouinet_reader_answer(.., good, result, sizeof result);
  *             if word is OUINET_READER_BLOCK:
  *                 the first ouinet_reader_block(..) bytes of the block buffer are a verified part of the body
- *             if word is OUINET_READER_CLOSED or OUINET_READER_REFUSED: stop
+ *             if word is OUINET_READER_COMPLETE, OUINET_READER_CLOSED or OUINET_READER_REFUSED: stop
  *     where the stream stops before that: ouinet_reader_end(..)
  */
 #ifndef OUINET_READER_H
@@ -49,7 +51,7 @@ extern "C" {
 
 /* ---- sizes, in bytes */
 
-#define OUINET_READER_STATE_SIZE 336
+#define OUINET_READER_STATE_SIZE 472
 #define OUINET_READER_RESULT_SIZE 96
 
 /* The least lengths of the three working buffers. A shorter one is refused with OUINET_READER_NO_ROOM. */
@@ -88,6 +90,26 @@ extern "C" {
  * verified it, so show it, escaped, and use it for nothing else. ouinet_reader_value gives nothing of a head that was not accepted.
  */
 
+/* ---- the end of the show
+ *
+ * A block's signature does not say that it is the last one. Three fields do, each in the head or in the trailer: Digest (SHA-256= and 44 base64
+ * characters), X-Ouinet-Data-Size (1 to 10 digits, no leading zero unless it is 0) and X-Ouinet-Sig1, which is written as X-Ouinet-Sig0 and signs
+ * what that one signs, and the other two as well: its list is X-Ouinet-Sig0's, in any case, with digest and x-ouinet-data-size added at its end. They are
+ * judged at the trailer's last byte, in this order:
+ *
+ *     none of the three is there, by name                               OUINET_READER_CLOSED: whether the body is complete was not checked
+ *     some but not all, one twice anywhere, a wrong text or list, or
+ *     digest or x-ouinet-data-size in X-Ouinet-Sig0's own list          refused with OUINET_READER_BAD_ENDS
+ *     the size is not that of the blocks that were handed out           refused with OUINET_READER_OTHER_LENGTH
+ *     the SHA-256 of these is not the digest                            refused with OUINET_READER_OTHER_DIGEST
+ *     X-Ouinet-Sig1's key is not X-Ouinet-Sig0's                        refused with OUINET_READER_UNTRUSTED
+ *     else                                                              OUINET_READER_QUESTION, the last one: a yes gives OUINET_READER_COMPLETE
+ *
+ * The record of that question is the one that was found for the head. These refusals have no place, and set the trailer in the block buffer to
+ * zero, as a no does. The values that are handed out stay those of X-Ouinet-Sig0's list. Whoever passes a stream on can take the three out: take
+ * OUINET_READER_CLOSED for a beginning of the show where all of it is needed.
+ */
+
 /* ---- the result of feed, answer and end */
 
 #define OUINET_READER_RESULT_WORD 0       /* a number: the word, the same as is returned */
@@ -101,13 +123,15 @@ extern "C" {
 #define OUINET_READER_QUESTION 1 /* first: the message is so many bytes at the front of the question buffer; second: the number of the key's record, from 0 */
 #define OUINET_READER_HEAD 2     /* the head is accepted; first: its status */
 #define OUINET_READER_BLOCK 3    /* a block is handed out; first: its place in the body; second: its length */
-#define OUINET_READER_CLOSED 4   /* the framing ended well, which does not say that the body is complete; first: the bytes of the body. Final */
+#define OUINET_READER_CLOSED 4   /* the framing ended well; the stream has no end fields, so nothing says that the body is complete; first: the bytes of the body. Final */
 #define OUINET_READER_REFUSED 5  /* first: the number of the refusal; second: with 3 and 6 its place, see there. Final, but for the first two */
+#define OUINET_READER_COMPLETE 6 /* from answer: the body is complete; first: its bytes. The size and the SHA-256 of the bytes handed out are those that the last yes was about. Final */
 
 /* Returned where the buffer of the state or of the result is too short. Nothing was changed, and no result written. */
 #define OUINET_READER_SHORT 255
 
-/* ---- refusals. The first two answer a call and change nothing; with the others the stream is over.
+/* ---- refusals. The first two answer a call and change nothing; with the others the stream is over. 12 comes at the head's end or at the
+ * trailer's, 13, 14 and 15 at the trailer's alone.
  *
  * OUINET_READER_BAD_HEAD and OUINET_READER_BAD_FRAME have a place, the second number of the result, counted from the first byte of the head, chunk
  * line, end of data or trailer. Where its text is wrong, the place is the length of the longest beginning that some good text has too, however
@@ -130,7 +154,10 @@ extern "C" {
 #define OUINET_READER_TOO_LONG 9      /* the body would pass 4,294,967,296 bytes */
 #define OUINET_READER_BAD_SIGNATURE 10 /* the answer was no */
 #define OUINET_READER_UNFINISHED 11   /* the end came before the stream's */
-#define OUINET_READER_UNTRUSTED 12    /* the key is not in the ring, or not trusted at the time, or the two key ids differ */
+#define OUINET_READER_UNTRUSTED 12    /* the key is not in the ring, or not trusted at the time, or the two key ids differ; at the trailer's end: X-Ouinet-Sig1's key is not X-Ouinet-Sig0's */
+#define OUINET_READER_BAD_ENDS 13     /* some but not all of the three end fields, one twice, a wrong text or list, or one that X-Ouinet-Sig0 signs already */
+#define OUINET_READER_OTHER_LENGTH 14 /* X-Ouinet-Data-Size is not the length of the body that was handed out */
+#define OUINET_READER_OTHER_DIGEST 15 /* Digest is not the SHA-256 of the body that was handed out */
 #define OUINET_READER_OTHER_URI 16    /* the head's URI is not the one asked for; tested before 12 */
 
 /* ---- the state
@@ -138,9 +165,11 @@ extern "C" {
  * Copy it, keep it, throw it away; ouinet_reader_fresh alone needs nothing of it beforehand. Its layout, for those who look inside:
  *
  *       0  phase           0 head, 1 its question open, 2 first chunk line, 3 data, 4 end of data, 5 next chunk line, 6 a block's
- *                          question open, 7 trailer, 8 closed, 9 refused; any other number is read as 9
- *       8  first count     bytes gathered; with 1 the head's length, with 6 the block's, with 8 the body's, with 9 the refusal
- *      16  second count    with 3, 4 and 5 the block's length, with 6 that of the next, with 7 the body's; else 0
+ *                          question open, 7 trailer, 8 closed, 9 refused, 10 the question about the end open, 11 complete; any other number
+ *                          is read as 9
+ *       8  first count     bytes gathered; with 1 the head's length, with 6 the block's, with 8 and 11 the body's, with 9 the refusal, with 10
+ *                          the trailer's
+ *      16  second count    with 3, 4 and 5 the block's length, with 6 that of the next, with 7 and 10 the body's; else 0
  *      24  accepted        length of the accepted head, else 0
  *      32  status
  *      40  block size
@@ -151,6 +180,9 @@ extern "C" {
  *     136  hash            64 bytes: of the block before
  *     200  line            128 bytes: of the chunk line under way
  *     328  released        length of the block that is handed out, else 0
+ *     336  digest          eight numbers: the SHA-256 of the body so far, its eight words; of a larger number the lowest four bytes count
+ *     400  rest            64 bytes: the body's last bytes that are not hashed yet, as many as the count's remainder by 64
+ *     464  count           how many bytes of the body came into that hash
  *
  * A state that no stream has led to is as safe as any other. With every state, a forged one too:
  *

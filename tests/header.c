@@ -1,9 +1,9 @@
 /*
- * include/ouinet_reader.h and the library behind it, from C: the example stream of crates/ouiread/data goes through in pieces of one size, and what
- * is said must be the lines of crates/ouiread/stdout; then wrong texts, and the place that is told of each; then heads with repeated fields; then
- * URIs that were asked for and are not the head's; then heads and trailers as long as they may be, and buffers as long as they had to be before
- * request #108; then the sizes that the header names, each beside one that is one byte short; then forged states, in buffers that are longer than
- * named and marked beyond.
+ * include/ouinet_reader.h and the library behind it, from C: the example stream of crates/ouiread/data goes through in pieces of one size, without
+ * and with the fields about its end, and what is said must be paper 01's nine lines, and the lines of crates/ouiread/stdout; then what is wrong with
+ * these fields; then wrong texts, and the place that is told of each; then heads with repeated fields; then URIs that were asked for and are not the
+ * head's; then heads and trailers as long as they may be, and buffers as long as they had to be before request #108; then the sizes that the header
+ * names, each beside one that is one byte short; then forged states, in buffers that are longer than named and marked beyond.
  * tests/header.sh builds and runs it. Its last line is 'N passed, M failed'.
  */
 #include "ouinet_reader.h"
@@ -100,12 +100,18 @@ static void say(char *to, uint8_t word) {
         sprintf(to, "block %llu %llu\n", first, second);
     else if (word == OUINET_READER_CLOSED)
         sprintf(to, "closed %llu\n", first);
+    else if (word == OUINET_READER_COMPLETE)
+        sprintf(to, "complete %llu\n", first);
     else if (word == OUINET_READER_REFUSED)
         sprintf(to, "refused %llu\n", first);
 }
 
-/* The whole stream in pieces; what was said, and the body that was handed out. */
-static void sit(const uint8_t *stream, size_t length, const char *answers, size_t piece, char *said, char *body) {
+static int is_last(uint8_t word) {
+    return word == OUINET_READER_CLOSED || word == OUINET_READER_COMPLETE || word == OUINET_READER_REFUSED;
+}
+
+/* The whole stream in pieces, all answers yes; what was said, and the body that was handed out. */
+static void sit(const uint8_t *stream, size_t length, size_t piece, char *said, char *body) {
     size_t at = 0;
     int in_result = 1, in_range = 1, in_block = 1;
     *said = *body = 0;
@@ -119,7 +125,7 @@ static void sit(const uint8_t *stream, size_t length, const char *answers, size_
         at += taken;
         say(said, word);
         if (word == OUINET_READER_QUESTION) {
-            word = answer(*answers++ == 'y');
+            word = answer(1);
             say(said, word);
         }
         if (word == OUINET_READER_BLOCK) {
@@ -127,7 +133,7 @@ static void sit(const uint8_t *stream, size_t length, const char *answers, size_
             in_block &= size == number(result + OUINET_READER_RESULT_SECOND);
             strncat(body, (const char *)block, size);
         }
-        if (word == OUINET_READER_CLOSED || word == OUINET_READER_REFUSED)
+        if (is_last(word))
             break;
     }
     expect("each word is in its result", in_result);
@@ -146,7 +152,8 @@ static void look_inside(const uint8_t *stream, size_t length) {
     uint8_t zeros[64] = {0};
     size_t head_length = 0;
     ouinet_reader_fresh(state, STATE);
-    expect("a fresh state is all zeros", !memcmp(state, (uint8_t[STATE]){0}, STATE));
+    expect("a fresh state is zeros, but for the hash of no bytes", !memcmp(state, (uint8_t[STATE]){0}, 336) && !memcmp(state + 400, zeros, 64) && number(state + 464) == 0);
+    expect("which is there", number(state + 336) == 0x6a09e667 && number(state + 392) == 0x5be0cd19);
     expect("a question comes", feed(stream, length) == OUINET_READER_QUESTION);
     head_length = (size_t)number(result + OUINET_READER_RESULT_TAKEN);
     expect("with a signature", memcmp(result + OUINET_READER_RESULT_SIGNATURE, zeros, 64) != 0);
@@ -192,18 +199,22 @@ static void look_up_values(void) {
 
 /* ---- where a text went wrong */
 
-/* A stream in pieces, all answers yes, up to its last word. How many bytes were taken. */
-static size_t read_all(const uint8_t *stream, size_t length, size_t piece) {
-    size_t at = 0;
+/* A stream from a byte on, in pieces, all answers yes, up to its last word. How many bytes were taken, those before included. */
+static size_t read_on(const uint8_t *stream, size_t at, size_t length, size_t piece) {
     uint8_t word = OUINET_READER_MORE;
-    ouinet_reader_fresh(state, STATE);
-    while (at < length && word != OUINET_READER_REFUSED && word != OUINET_READER_CLOSED) {
+    while (at < length && !is_last(word)) {
         word = feed(stream + at, length - at < piece ? length - at : piece);
         at += (size_t)number(result + OUINET_READER_RESULT_TAKEN);
         if (word == OUINET_READER_QUESTION)
-            answer(1);
+            word = answer(1);
     }
     return at;
+}
+
+/* The whole stream so. */
+static size_t read_all(const uint8_t *stream, size_t length, size_t piece) {
+    ouinet_reader_fresh(state, STATE);
+    return read_on(stream, 0, length, piece);
 }
 
 /* The beginning of a text, its line ends escaped. */
@@ -439,7 +450,7 @@ static void ask_at_the_right_time(const char *stream, size_t length, const char 
     ask_for(own, strlen(own));
     expect("the right one at the head's end", feed(bytes + at - 1, 1) == OUINET_READER_QUESTION && answer(1) == OUINET_READER_HEAD);
     ask_for("", 0);
-    while (at < length && word != OUINET_READER_REFUSED) {
+    while (at < length && !is_last(word)) {
         word = feed(bytes + at, length - at);
         at += (size_t)number(result + OUINET_READER_RESULT_TAKEN);
         if (word == OUINET_READER_QUESTION)
@@ -456,6 +467,94 @@ static uint8_t feed_with(size_t s, size_t h, size_t b, size_t q, const uint8_t *
 static int is_refused(uint8_t word, unsigned refusal) {
     int has_place = refusal == OUINET_READER_BAD_HEAD || refusal == OUINET_READER_BAD_FRAME;
     return word == OUINET_READER_REFUSED && number(result + OUINET_READER_RESULT_FIRST) == refusal && (has_place || has_no_place());
+}
+
+/* ---- the end of the show */
+
+/* The stream with its first such text in the trailer replaced. Its length. */
+static size_t edit_trailer(char *to, const char *stream, size_t trailer, const char *from, const char *by) {
+    const char *at = strstr(stream + trailer, from);
+    expect("the text is in the trailer", at != NULL);
+    return (size_t)sprintf(to, "%.*s%s%s", (int)(at - stream), stream, by, at + strlen(from));
+}
+
+/* Where the trailer of the example starts. */
+static size_t trailer_start(const char *stream) {
+    return (size_t)(strstr(strstr(stream, "\r\n0;ouisig=") + 2, "\r\n") - stream) + 2;
+}
+
+static int bytes_are(const uint8_t *at, size_t length, uint8_t byte) {
+    while (length > 0 && at[length - 1] == byte)
+        length--;
+    return length == 0;
+}
+
+/* The last question, and what the state says of it: the trailer's length, the body's, and the hash of no more bytes than it has room for. */
+static void look_at_the_end(const char *whole, size_t length, size_t piece) {
+    static const char body[] = "Hello world!";
+    size_t trailer = trailer_start(whole), i;
+    uint8_t word = OUINET_READER_MORE;
+    int time;
+    for (time = 0; time < 2; time++) {
+        memset(block, 'b', sizeof block);
+        ouinet_reader_fresh(state, STATE);
+        for (i = 0; i < length; i += (size_t)number(result + OUINET_READER_RESULT_TAKEN)) {
+            if (word == OUINET_READER_QUESTION)
+                answer(1);
+            word = feed((const uint8_t *)whole + i, length - i < piece ? length - i : piece);
+        }
+        expect("the trailer's last byte brings a question", word == OUINET_READER_QUESTION && number(result + OUINET_READER_RESULT_FIRST) == 303);
+        expect("about the digest and the size", asks_of("\ndigest: SHA-256=wFNeS+K3n/2TKRMFQ2v4iTFOSj+uwF7P/Lt98xrZ5Ro=\nx-ouinet-data-size: 12"));
+        expect("by the head's record", number(result + OUINET_READER_RESULT_SECOND) == 0);
+        expect("its phase is 10", number(state) == 10 && number(state + 8) == length - trailer && number(state + 16) == 12);
+        expect("with what is not hashed yet", number(state + 464) == 12 && !memcmp(state + 400, body, 12));
+        expect("and the hash before it", number(state + 336) == 0x6a09e667 && number(state + 392) == 0x5be0cd19);
+        expect("a feed is not due", is_refused(feed((const uint8_t *)whole, 1), OUINET_READER_NOT_DUE));
+        expect("nor is the end", is_refused(end(), OUINET_READER_NOT_DUE));
+        expect("the trailer is in its buffer", !memcmp(block, whole + trailer, length - trailer));
+        if (time == 0) {
+            expect("a yes is complete", answer(1) == OUINET_READER_COMPLETE && number(result + OUINET_READER_RESULT_FIRST) == 12 && has_no_place());
+            expect("its phase is 11", number(state) == 11 && number(state + 8) == 12);
+            expect("and nothing is cleared", !memcmp(block, whole + trailer, length - trailer));
+        } else {
+            expect("a no is refused with 10", is_refused(answer(0), OUINET_READER_BAD_SIGNATURE));
+            expect("and the trailer is cleared", bytes_are(block, length - trailer, 0) && block[length - trailer] == 'b');
+        }
+        expect("it is final", is_refused(feed((const uint8_t *)whole, 1), OUINET_READER_NOT_DUE) && is_refused(answer(1), OUINET_READER_NOT_DUE) &&
+                                  is_refused(end(), OUINET_READER_NOT_DUE));
+        expect("no field about the end is a value", line_count("digest") == 0 && line_count("x-ouinet-data-size") == 0 && line_count("content-type") == (size_t)1);
+        word = OUINET_READER_MORE;
+    }
+}
+
+static void refuse_ends(const char *whole, size_t piece) {
+    static const struct {
+        const char *from, *to;
+        unsigned refusal;
+    } edits[] = {{"Digest:", "Digests:", OUINET_READER_BAD_ENDS},
+                 {"Digest:", "Digest: x\r\nDigest:", OUINET_READER_BAD_ENDS},
+                 {"SHA-256=", "sha-256=", OUINET_READER_BAD_ENDS},
+                 {"5Ro=", "5Rp=", OUINET_READER_BAD_ENDS},
+                 {"Size: 12", "Size: 012", OUINET_READER_BAD_ENDS},
+                 {"Size: 12", "Size: 12000000000", OUINET_READER_BAD_ENDS},
+                 {"X-Ouinet-Sig1:", "X-Ouinet-Sig2:", OUINET_READER_BAD_ENDS},
+                 {" digest x-Ouinet-data-size", " x-Ouinet-data-size digest", OUINET_READER_BAD_ENDS},
+                 {"Size: 12", "Size: 13", OUINET_READER_OTHER_LENGTH},
+                 {"Size: 12", "Size: 0", OUINET_READER_OTHER_LENGTH},
+                 {"Size: 12", "Size: 4294967308", OUINET_READER_OTHER_LENGTH},
+                 {"SHA-256=w", "SHA-256=x", OUINET_READER_OTHER_DIGEST},
+                 {"ed25519=bt", "ed25519=bu", OUINET_READER_UNTRUSTED}};
+    static char text[4096];
+    size_t trailer = trailer_start(whole), i;
+    for (i = 0; i < sizeof edits / sizeof *edits; i++) {
+        char what[160];
+        size_t length = edit_trailer(text, whole, trailer, edits[i].from, edits[i].to);
+        memset(block, 'b', sizeof block);
+        sprintf(what, "'%s' is refused with %u at the trailer's end", edits[i].to, edits[i].refusal);
+        expect(what, read_all((const uint8_t *)text, length, piece) == length && is_refused((uint8_t)number(result), edits[i].refusal));
+        expect("without a place, its trailer cleared", has_no_place() && bytes_are(block, length - trailer, 0) && block[length - trailer] == 'b');
+        expect("and nothing handed out", ouinet_reader_block(state, STATE, block, sizeof block) == 0 && number(state) == 9);
+    }
 }
 
 /* ---- longer heads and trailers */
@@ -601,15 +700,9 @@ enum { MORE = 64 };
 
 static uint8_t long_head[OUINET_READER_HEAD_SIZE + MORE], long_block[OUINET_READER_BLOCK_SIZE + MORE], long_question[OUINET_READER_QUESTION_SIZE + MORE];
 
-static int all(const uint8_t *at, size_t length, uint8_t byte) {
-    while (length > 0 && at[length - 1] == byte)
-        length--;
-    return length == 0;
-}
-
 static int beyond_is(uint8_t mark) {
-    return all(long_head + OUINET_READER_HEAD_SIZE, MORE, mark) && all(long_block + OUINET_READER_BLOCK_SIZE, MORE, mark) &&
-           all(long_question + OUINET_READER_QUESTION_SIZE, MORE, mark);
+    return bytes_are(long_head + OUINET_READER_HEAD_SIZE, MORE, mark) && bytes_are(long_block + OUINET_READER_BLOCK_SIZE, MORE, mark) &&
+           bytes_are(long_question + OUINET_READER_QUESTION_SIZE, MORE, mark);
 }
 
 /* A state with a phase and its counts, all else zero; buffers of the byte `b`, marked beyond. */
@@ -649,18 +742,28 @@ static void defy_forged_calls(uint8_t mark) {
     expect("nothing beyond is written", beyond_is(mark));
     forge(6, largest, 0, mark);
     expect("answered no, it is refused", is_refused(long_answer(0), OUINET_READER_BAD_SIGNATURE));
-    expect("what the size names is zero, and no byte beyond", all(long_block, OUINET_READER_BLOCK_SIZE, 0) && beyond_is(mark));
+    expect("what the size names is zero, and no byte beyond", bytes_are(long_block, OUINET_READER_BLOCK_SIZE, 0) && beyond_is(mark));
     forge(0, OUINET_READER_HEAD_SIZE, 0, mark);
     expect("a head with all its room taken takes no byte more", is_refused(long_feed("x"), OUINET_READER_BAD_HEAD));
-    expect("and writes none beyond", beyond_is(mark) && all(long_head, OUINET_READER_HEAD_SIZE, 'b'));
+    expect("and writes none beyond", beyond_is(mark) && bytes_are(long_head, OUINET_READER_HEAD_SIZE, 'b'));
     forge(3, OUINET_READER_BLOCK_SIZE + 8, largest, mark);
     expect("data past its room is refused", is_refused(long_feed("x"), OUINET_READER_BAD_FRAME));
-    expect("and clears none beyond", all(long_block, OUINET_READER_BLOCK_SIZE, 0) && beyond_is(mark));
+    expect("and clears none beyond", bytes_are(long_block, OUINET_READER_BLOCK_SIZE, 0) && beyond_is(mark));
     forge(3, OUINET_READER_BLOCK_SIZE + 8, largest, mark);
     expect("an end there is refusal 11", is_refused(long_end(), OUINET_READER_UNFINISHED));
-    expect("and clears none beyond, either", all(long_block, OUINET_READER_BLOCK_SIZE, 0) && beyond_is(mark));
+    expect("and clears none beyond, either", bytes_are(long_block, OUINET_READER_BLOCK_SIZE, 0) && beyond_is(mark));
     forge(7, OUINET_READER_BLOCK_SIZE, 0, mark);
     expect("nor does a trailer go beyond", is_refused(long_feed("x"), OUINET_READER_BAD_FRAME) && beyond_is(mark));
+    forge(10, largest, largest, mark);
+    expect("the last question of a forged state is answered", long_answer(1) == OUINET_READER_COMPLETE && beyond_is(mark));
+    forge(10, largest, largest, mark);
+    expect("and refused", is_refused(long_answer(0), OUINET_READER_BAD_SIGNATURE));
+    expect("which clears none beyond", bytes_are(long_block, OUINET_READER_BLOCK_SIZE, 0) && beyond_is(mark));
+    forge(11, 5, 0, mark);
+    expect("what is complete is over", is_refused(long_feed("x"), OUINET_READER_NOT_DUE) && is_refused(long_answer(1), OUINET_READER_NOT_DUE) &&
+                                           is_refused(long_end(), OUINET_READER_NOT_DUE));
+    forge(12, 5, 0, mark);
+    expect("and so is a phase that there is not", is_refused(long_feed("x"), OUINET_READER_NOT_DUE) && is_refused(long_answer(1), OUINET_READER_NOT_DUE));
 }
 
 /* The question after a forged block that is longer than its room: it is within its own, and says nothing of the bytes beyond. */
@@ -697,23 +800,49 @@ static void defy_forged_parts(void) {
     }
 }
 
+/* The head's buffer is overwritten when the head is accepted: with fields about its end or without, the stream is refused at the trailer's. */
+static void lose_the_head(const char *stream, size_t length, size_t piece) {
+    size_t head_length = (size_t)(strstr(stream, "\r\n\r\n") - stream) + 4;
+    expect("a head is accepted", is_asked(stream, head_length, piece) && answer(1) == OUINET_READER_HEAD);
+    memset(head, 'x', sizeof head);
+    expect("without its bytes the stream is read up to the trailer", read_on((const uint8_t *)stream, head_length, length - 1, piece) == length - 1 && number(state) == 7);
+    expect("all of the body is counted", number(state + 16) == 12);
+    expect("the trailer's last byte is refused with 13", is_refused(feed((const uint8_t *)stream + length - 1, 1), OUINET_READER_BAD_ENDS));
+    expect("which is final", number(state) == 9 && number(state + 8) == OUINET_READER_BAD_ENDS);
+}
+
+/* Paper 01's lines for the example without the fields about its end. */
+static const char nine[] = "question 219\nhead 200\nquestion 83\nblock 0 5\nquestion 83\nblock 5 5\nquestion 84\nblock 10 2\nclosed 12\n";
+
+/* The example up to its trailer, and this behind it. Its length. */
+static size_t with_trailer(char *to, const char *stream, const char *trailer) {
+    return (size_t)sprintf(to, "%.*s%s", (int)trailer_start(stream), stream, trailer);
+}
+
 int main(int count, char **arguments) {
-    char stream[4096], keys[4096], answers[4096], expected[4096], said[4096], body[4096], own[4096], one[128] = {0}, other[128] = {0};
-    size_t length, piece;
-    if (count != 7) {
-        fprintf(stderr, "usage: header STREAM RING URI ANSWERS EXPECTED PIECE\n");
+    char stream[8192], whole[8192], keys[4096], expected[4096], said[4096], body[4096], own[4096], one[128] = {0}, other[128] = {0};
+    size_t length, whole_length, piece;
+    if (count != 6) {
+        fprintf(stderr, "usage: header STREAM RING URI EXPECTED PIECE\n");
         return 1;
     }
-    length = contents(arguments[1], stream, sizeof stream);
+    whole_length = contents(arguments[1], whole, sizeof whole);
     contents(arguments[2], keys, sizeof keys);
     ask_for(own, contents(arguments[3], own, sizeof own));
-    contents(arguments[4], answers, sizeof answers);
-    contents(arguments[5], expected, sizeof expected);
-    piece = (size_t)atol(arguments[6]);
+    contents(arguments[4], expected, sizeof expected);
+    piece = (size_t)atol(arguments[5]);
     read_ring(keys);
-    sit((const uint8_t *)stream, length, answers, piece, said, body);
-    expect("the nine lines", !strcmp(said, expected));
+    length = with_trailer(stream, whole, "\r\n");
+    sit((const uint8_t *)whole, whole_length, piece, said, body);
+    expect("the ten lines", !strcmp(said, expected));
     expect("the body", !strcmp(body, "Hello world!"));
+    look_at_the_end(whole, whole_length, piece);
+    refuse_ends(whole, piece);
+    lose_the_head(whole, whole_length, piece);
+    lose_the_head(stream, length, piece);
+    sit((const uint8_t *)stream, length, piece, said, body);
+    expect("the nine lines", !strcmp(said, nine));
+    expect("the same body", !strcmp(body, "Hello world!"));
     look_up_values();
     defy_forged_parts();
     look_inside((const uint8_t *)stream, length);

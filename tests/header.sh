@@ -1,6 +1,6 @@
 #!/usr/bin/env bash
 # include/ouinet_reader.h as C and as C++, in an old and in a new edition of each; then the program tests/header.c over the proved
-# library, with the example stream in pieces of one byte and of 4,096, and with forged states.
+# library, with the example stream in pieces of one byte and of 4,096, without and with the fields about its end, and with forged states.
 set -uo pipefail
 cd "$(dirname "$0")/.."
 . scripts/counting
@@ -31,7 +31,7 @@ fi
 
 data=crates/ouiread/data
 for piece in 1 4096; do
-    last=$("$work/header" "$data/stream" "$data/ring" "$data/uri" "$data/answers" crates/ouiread/stdout "$piece" | tee /dev/stderr | tail -n 1)
+    last=$("$work/header" "$data/stream" "$data/ring" "$data/uri" crates/ouiread/stdout "$piece" | tee /dev/stderr | tail -n 1)
     add "$last" || echo "FAILED: pieces of $piece: the program ended without its count"
 done
 

@@ -1,6 +1,6 @@
 #!/usr/bin/env bash
-# What ouiread itself says, beside the events: the lines on standard error, exactly as docs/INTERFACE.md has them, and the files that
-# may be pipes. (tests/compare.sh has the malformed files.)
+# What ouiread says: the lines of paper 01's example without and with the fields about its end, whole; and beside the events the lines on
+# standard error, exactly as docs/INTERFACE.md has them, and the files that may be pipes. (tests/compare.sh has the malformed files.)
 set -uo pipefail
 cd "$(dirname "$0")/.."
 . scripts/counting
@@ -8,7 +8,14 @@ cd "$(dirname "$0")/.."
 ouiread=$PWD/target/bin/ouiread
 work=$(mktemp -d)
 trap 'rm -rf "$work"' EXIT
-cp crates/ouiread/data/* "$work" && cp crates/ouiread/stdout "$work/nine" && cd "$work" || exit 1
+cp crates/ouiread/data/* "$work" && cp crates/ouiread/stdout "$work/ten" && cd "$work" || exit 1
+# The example up to its trailer; without the fields about its end, and the nine lines of paper 01; with them, and the ten lines
+cp stream whole
+LC_ALL=C sed '/^0;ouisig=/q' whole >front
+LC_ALL=C sed '1,/^0;ouisig=/d' whole >ends
+{ cat front; printf '\r\n'; } >stream
+{ head -n 8 ten; echo 'closed 12'; } >nine
+printf 'yyyyy\n' >five
 mkdir folder
 ln -s /proc/self/mem unreadable # opens, and its first read fails
 head -n 3 nine >three
@@ -37,6 +44,77 @@ bare() {
 run() {
     bare "$@" --uri uri
 }
+
+# The example, and the example with its end
+run stream ring answers
+expect 'the example' nine ''
+run whole ring five
+expect 'the example with its end' ten ''
+for length in 1 2 3 5 64 1000 65536; do
+    echo "$length" >cuts
+    run whole ring five cuts body
+    expect "with its end, in pieces of $length" ten ''
+    check "its body, in pieces of $length" test "$(cat body)" = 'Hello world!'
+done
+rm cuts body
+# all_in_head: the example with the three fields in the head, and an empty trailer.
+all_in_head() {
+    sed '/^\r/,$d' stream
+    grep -E '^(Digest|X-Ouinet-Data-Size|X-Ouinet-Sig1):' ends
+    sed -n '/^\r/,$p' stream
+}
+all_in_head >in-head
+run in-head ring five
+expect 'with its end in the head' ten ''
+{ cat ten; echo 'tally blocks 3 bytes 12 closed 1 refused 0'; } >counted
+run whole ring five --tally
+expect 'complete counts as closed' counted ''
+head -n 9 ten >unanswered
+printf 'yyyy\n' >four
+run whole ring four
+expect 'no answer to the last question' unanswered ''
+{ cat unanswered; echo 'refused 10'; echo 'tally blocks 3 bytes 12 closed 0 refused 1'; } >counted
+printf 'yyyyn\n' >last-no
+run whole ring last-no --tally
+expect 'a no to the last question' counted ''
+{ head -n 8 ten; echo 'refused 11'; } >stopped
+for length in $(seq "$(wc -c <front)" 41 $(($(wc -c <whole) - 1))); do
+    head -c "$length" whole >wrong
+    run wrong ring five
+    expect "cut off after $length" stopped ''
+done
+
+# at_end NAME REFUSAL SED..: the example with its end edited gives all blocks, and then is refused, without a place.
+at_end() {
+    local name=$1 refusal=$2
+    shift 2
+    { cat front; sed "$@" ends; } >wrong
+    { head -n 8 ten; echo "refused $refusal"; } >refused
+    run wrong ring five --where
+    expect "$name" refused ''
+}
+at_end 'no digest' 13 '/^Digest:/d'
+at_end 'a digest alone' 13 '/^X-Ouinet/d'
+at_end 'a size twice' 13 '/^X-Ouinet-Data-Size:/p'
+at_end 'another hash' 13 's/SHA-256=/MD5=/'
+at_end 'a hash in small letters' 13 's/SHA-256=/sha-256=/'
+at_end 'spare bits' 13 's/5Ro=/5Rp=/'
+at_end 'a size of eleven digits' 13 's/: 12\r/: 12345678901\r/'
+at_end 'a size with a zero before it' 13 's/: 12\r/: 012\r/'
+at_end 'another list' 13 's/ digest x-Ouinet-data-size/ x-Ouinet-data-size digest/'
+at_end 'a wrong signature field' 13 's/^X-Ouinet-Sig1:.*/X-Ouinet-Sig1: x\r/'
+at_end 'another size' 14 's/: 12\r/: 13\r/'
+at_end 'a size beyond 32 bits' 14 's/: 12\r/: 4294967308\r/'
+at_end 'another digest' 15 's/SHA-256=w/SHA-256=x/'
+at_end 'another size and another digest' 14 's/: 12\r/: 13\r/;s/SHA-256=w/SHA-256=x/'
+at_end 'another key' 12 's/ed25519=bt/ed25519=bu/'
+at_end 'another key and another digest' 15 's/ed25519=bt/ed25519=bu/;s/SHA-256=w/SHA-256=x/'
+
+# An empty body is a whole one, too
+{ sed '/^\r/q' stream; printf '0\r\n'; sed 's/: 12\r/: 0\r/;s|SHA-256=.*\r|SHA-256=47DEQpj8HBSa+/TImW+5JCeuQeRkm5NMpJWZG3hSuFU=\r|' ends; } >empty
+printf 'question 219\nhead 200\nquestion 302\ncomplete 0\n' >lines
+run empty ring five
+expect 'an empty show' lines ''
 
 usage='usage: ouiread STREAM RING ANSWERS [CUTS [BODY]] --uri FILE [--tally] [--where]'
 run stream ring
@@ -216,7 +294,7 @@ sed 's/^5\r$/000000005\r/' stream >wrong
 went_wrong 'a size of nine digits' 2 '6 at 8'
 sed 's/^Hello\r$/Hello\r\r/' stream >wrong
 went_wrong 'a data end without its line feed' 2 '6 at 1'
-sed 's/^Digest:/Digest/' stream >wrong
+sed 's/^Digest:/Digest/' whole >wrong
 went_wrong 'a trailer without a colon' 8 '6 at 6'
 sed 's/^X-Ouinet-Version: 4/X-Ouinet-Version: 5/' stream >wrong
 went_wrong 'a refusal that has no place' 0 5
@@ -259,7 +337,7 @@ with_fields 129 >wrong
 went_wrong '129 fields' 0 "3 at $(head_length wrong)"
 # with_trailer TEXT..: the example with this trailer, by printf.
 with_trailer() {
-    sed '/^Digest:/,$d' stream
+    cat front
     printf "$@"
 }
 for length in 8193 32768; do

@@ -1,7 +1,7 @@
 #!/usr/bin/env python3
 """Writes what the program must write: `python3 expected.py > stdout`.
 
-SHA-512 is hashlib's. A text is the base64 of n bytes where base64's module decodes it to n bytes and encodes these to the same text again.
+SHA-512 and SHA-256 are hashlib's, and a message that is fed in parts has the hash of the whole. A text is the base64 of n bytes where base64's module decodes it to n bytes and encodes these to the same text again.
 How far a text goes well is found by trying: a beginning of it goes well where some end makes it the base64 of n bytes.
 """
 import base64
@@ -13,11 +13,18 @@ def sha512(data):
     return hashlib.sha512(data).digest()
 
 
+def sha256(data):
+    return hashlib.sha256(data).digest()
+
+
+def slid(letters, n):
+    """Each n letters that stand together, from the first on: how the standard's long messages are made."""
+    return b"".join(letters[i : i + n] for i in range(len(letters) - n + 1))
+
+
 def messages():
     print("SHA-512, FIPS 180-4")
-    alphabet = b"abcdefghijklmnopqrstu"
-    wide = b"".join(alphabet[i : i + 8] for i in range(14))
-    named = [('""', b""), ('"abc"', b"abc"), ("of the 896 bit message", wide)]
+    named = [('""', b""), ('"abc"', b"abc"), ("of the 896 bit message", slid(b"abcdefghijklmnopqrstu", 8))]
     runs = [(f"of {n} times a", b"a" * n) for n in (111, 112, 127, 128, 239, 240, 1000000)]
     for name, data in named + runs:
         print("sha512", name, sha512(data).hex())
@@ -29,6 +36,29 @@ def chain():
     for i in range(0, len(body), 5):
         last = sha512(last + body[i : i + 5])
         print(f"hash({i // 5})", last.hex())
+
+
+def messages_256():
+    print("\nSHA-256, FIPS 180-4")
+    named = [
+        ('""', b""),
+        ('"abc"', b"abc"),
+        ("of the 448 bit message", slid(b"abcdefghijklmnopq", 4)),
+        ("of the 896 bit message", slid(b"abcdefghijklmnopqrstu", 8)),
+    ]
+    runs = [(f"of {n} times a", b"a" * n) for n in (55, 56, 63, 64, 65, 119, 120, 128, 1000000)]
+    for name, data in named + runs:
+        print("sha256", name, sha256(data).hex())
+
+
+def in_parts():
+    print("\nSHA-256 of 200 bytes in parts")
+    whole = sha256(bytes(i % 251 for i in range(200))).hex()
+    print("sha256 of the whole", whole)
+    for a, b in [(0, 0), (1, 2), (55, 56), (63, 64), (63, 65), (64, 128), (65, 127), (100, 100), (120, 199), (200, 200)]:
+        print(f"cut at {a} and {b}", whole)
+    for n in (1, 7, 32, 63, 64, 65, 128):
+        print(f"in parts of {n}", whole)
 
 
 def decoded(text, n):
@@ -107,6 +137,8 @@ def stops(name, n, others, text):
 
 messages()
 chain()
+messages_256()
+in_parts()
 short_texts()
 key_bytes, signature_bytes = bytes(range(200, 232)), bytes((3 + 7 * i) % 256 for i in range(64))
 key_text, signature_text = base64.b64encode(key_bytes), base64.b64encode(signature_bytes)

@@ -24,8 +24,9 @@ use Rattle.agreement.specs.Run.{wordSeen}
 use Rattle.agreement.proofs.Stands.{Lent, Standing, At, Reads, isRelease, Follows}
 use Rattle.agreement.proofs.Stands as F
 use Rattle.agreement.proofs.DataSteps.{data-step, end-step}
-use Rattle.agreement.proofs.LineSteps.{first-step, trailer-step}
+use Rattle.agreement.proofs.LineSteps.{first-step}
 use Rattle.agreement.proofs.NextSteps.{next-step}
+use Rattle.agreement.proofs.TrailerSteps.{trailer-step}
 use Rattle.agreement.proofs.HeadSteps.{head-step}
 
 -- what a piece does, with t bytes taken before it
@@ -45,7 +46,7 @@ module _ (terms : Terms) (fields : List Field) where
   byte-at d x p l z (F.blockData {have} {size} {g} {s} {p = q} k c sound a e) = data-step terms fields d x l z s q have size g k c sound a e
   byte-at d x p l z (F.dataEnd {have} {size} {b} {g} {s} {p = q} u a e) = end-step terms fields d x l z s q size b u have g a e
   byte-at d x p l z (F.nextLine {have} {size} {b} {g} {s} {p = q} u a e) = next-step terms fields d x l z s q size b u have g a e
-  byte-at d x p l z (F.trailer {have} {total} {g} most a e) = trailer-step terms fields d x l z have total g most a e
+  byte-at d x p l z (F.trailer {have} {total} {g} {s} {p = q} k c sound a e) = trailer-step terms fields d x l z s q k c have total g sound a e
 
   one-more : (t : ℕ) (f : Fed) (o : Turn Context Question Release LastWord) → FedAs terms fields (t + 1) f o → FedAs terms fields t f (oneMore o)
   one-more t f o (all {m} {n} e r) = all {m = m} {n = suc n} (omega (arith, e)) r

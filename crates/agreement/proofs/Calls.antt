@@ -5,11 +5,11 @@ use mathlib.Core.List.{List, []}
 use Prim.Native.Nat.{ℕ, suc, _+_, _≤_, min}
 use native.Mathlib.Nat.{zero-add, le-mul-of-pos-right}
 use native.Mathlib.Omega.{arith}
-use borrow.Author.Tests.{ne-eqb}
+use borrow.Author.Tests.{ne-eqb, le-leb}
 use lib.ListN.{length, length-take}
 use Rattle.octets.specs.Choice.{pick}
 use Rattle.blocks.specs.Place.{largest}
-use Rattle.sections.specs.Reading.{Event, question, message, last}
+use Rattle.sections.specs.Reading.{Event, question, message, last, final}
 use Rattle.sections.specs.Calls.{Request, feed, answer, end, more, event}
 use Rattle.sections.specs.Machine.{running, asked, finished, Turn, respond}
 use Rattle.refusals.specs.Refusals.{plain}
@@ -17,13 +17,15 @@ use Rattle.refusals.specs.declared.Refusal.{Refusal}
 use Rattle.stream.specs.Events.{Question, Release, headAccepted, block, LastWord}
 use Rattle.stream.specs.Events as E
 use Rattle.stream.specs.Head.{headOf, statusDigits, signedOf}
-use Rattle.stream.specs.Limits.{blockLimit}
+use Rattle.stream.specs.Limits.{headLimit, blockLimit}
 use Rattle.stream.specs.Lines.{Field}
 use Rattle.stream.specs.Numbers.{decimalValue}
 use Rattle.stream.specs.Stream.{Show, Past, after, Context, rules, blockOffset, bodyWith, showOf}
 use Rattle.stream.specs.Stream as C
 use Rattle.stream.specs.Terms.{Terms}
 use Rattle.stream.proofs.Sound.{not-whole-empty}
+use Rattle.stream.proofs.SigningSize.{head-text-kept}
+use Rattle.handing.specs.Handing.{acceptedHead}
 use Rattle.handing.proofs.ValueLaws.{handed-signed}
 use Rattle.state.specs.Configuration.{Configuration, configuration, pending, refuse}
 use Rattle.line_steps.specs.NextLine as Line
@@ -32,12 +34,12 @@ use Rattle.state.specs.declared.phase.Phase.{Phase}
 use Rattle.state.proofs.BufferLaws.{length-cleared}
 use Rattle.calls.specs.Response.{given, isReading, unchanged, recalled}
 use Rattle.reader.specs.Feed.{fed, takenFrom}
-use Rattle.calls.specs.Answer.{accepting, answerAt, blockAnswer, followed, following, headAnswer, releasing}
+use Rattle.calls.specs.Answer.{accepting, answerAt, blockAnswer, endAnswer, followed, following, headAnswer, releasing}
 use Rattle.handing.specs.Released.{blockPart}
 use Rattle.agreement.specs.Observation as Shown
 use Rattle.agreement.specs.Plain.{valuesIn, blockLeft, Handed, handedAfter}
 use Rattle.agreement.specs.Run.{wordSeen}
-use Rattle.agreement.proofs.Stands.{Counts, Lent, Standing, At, HeadAsked, BlockAsked, Reads, isRelease}
+use Rattle.agreement.proofs.Stands.{Lies, Counts, Lent, Standing, At, HeadAsked, BlockAsked, EndAsked, Reads, isRelease}
 use Rattle.agreement.proofs.Stands as F
 use Rattle.agreement.proofs.Gathering.{none-gathered, still}
 use Rattle.agreement.proofs.Refusals.{seen-final}
@@ -107,11 +109,20 @@ module _ (terms : Terms) (h : Handed) where
     within : n ≤ length (d .head)
     within = rw (← a .bytes .count, ← a .bytes .bytes, length-take) (omega arith)
 
+    -- the head that was asked about lies where an accepted head does
+    accepted-is : acceptedHead (d .head) n ≡ l
+    unfolding acceptedHead
+    accepted-is = rw (le-leb headLimit (length (d .head)) (lent .head), le-leb n (length (d .head)) within) (a .bytes .bytes)
+
+    lies : Lies (d .head) n (headOf l)
+    lies = record { says = rw accepted-is; good = rw accepted-is (head-text-kept terms l (a .good)); short = rw accepted-is (a .short) }
+
     accepted-holds : Holds terms (configuration (accepting (d .reader) n) (d .head) (d .block) (d .question)) (record { released = h .released; signed = signedOf (headOf l) }) (running (C.firstLine (showOf (terms .ring) (headOf l))) [])
+    unfolding showOf
     accepted-holds =
         record {
           stands =
-              F.firstLine (record { id = a .keeps .id; size = a .keeps .size; key = a .keeps .key }) (a .sound) (a .none) (none-gathered (d .reader .line))
+              F.firstLine (record { id = a .keeps .id; size = a .keeps .size; key = a .keeps .key; head = lies }) (a .sound) (a .none) (none-gathered (d .reader .line))
               (not-whole-empty (C.firstLine (showOf (terms .ring) (headOf l))) (a .sound));
           lent =
               record {
@@ -141,7 +152,7 @@ module _ (terms : Terms) (h : Handed) where
         let i : d .reader .chain .number .0 ≡ p .blocks = a .blocks in
         let m : p .blocks ≤ blockOffset s p = le-mul-of-pos-right (p .blocks) (a .sound .show .some) in
         let n : min (d .reader .chain .number .0 + 1) largest ≡ suc (p .blocks) = omega (arith, a .sound .body) in
-        record { blocks = n; hash = rw (n, ne-eqb (suc (p .blocks)) 0 (λ e. omega arith)) (a .hash) }
+        record { blocks = n; hash = rw (n, ne-eqb (suc (p .blocks)) 0 (λ e. omega arith)) (a .hash); body = a .body }
 
     abbrev handed : Handed
     handed = record { released = b; signed = h .signed }
@@ -166,6 +177,17 @@ module _ (terms : Terms) (h : Handed) where
         rw m (follows _ (event (message (block (blockOffset s p) b))) 0 _ released-holds (λ i. event (message (Shown.block (o i) (n i) (t i)))) refl)
     block-answer-follows false = refused-follows (answer false) (plain 10) size d (omega arith) lent (a .taken) none
 
+  -- ---- an answer to the question about the end
+
+  module _ (d : Configuration) (have total : ℕ) (lent : Lent d (h .signed)) (a : EndAsked terms d have) (none : h .released ≡ []) where
+    end-answer-follows : (good : Bool) → CallFollows terms h (answer good) (endAnswer have total d good) (respond (rules terms) (asked (final (E.complete total))) (answer good))
+    unfolding endAnswer respond rules wordSeen
+    end-answer-follows true =
+        follows _ (event (last (E.complete total))) 0 finished
+        (record { stands = F.complete; lent = still lent _ refl refl refl refl refl; block = rw (a .taken, none) refl })
+        refl refl
+    end-answer-follows false = refused-follows (answer false) (plain 10) have d (omega arith) lent (a .taken) none
+
   -- ---- any answer
 
   pub answer-follows : (d : Configuration) (p : Phase) (s : Standing) (good : Bool) → Holds terms d h s → At terms d p s
@@ -173,11 +195,13 @@ module _ (terms : Terms) (h : Handed) where
   unfolding answerAt respond
   answer-follows d p (asked y) good k (F.headAsked {n} {l} a) = head-answer-follows d n l (k .lent) a (none-out k (a .taken)) good
   answer-follows d p (asked y) good k (F.blockAsked {size} {next} {b} {s} {p = q} a) = block-answer-follows d s q size next b (k .lent) a (none-out k (a .taken)) good
+  answer-follows d p (asked y) good k (F.endAsked {have} {total} a) = end-answer-follows d have total (k .lent) a (none-out k (a .taken)) good
   answer-follows d p (running c g) good k (F.head early a e) = unchanged-follows 1 d _ refl k
   answer-follows d p (running c g) good k (F.firstLine keeps sound none a e) = unchanged-follows 1 d _ refl k
   answer-follows d p (running c g) good k (F.blockData keeps counts sound a e) = unchanged-follows 1 d _ refl k
   answer-follows d p (running c g) good k (F.dataEnd u a e) = unchanged-follows 1 d _ refl k
   answer-follows d p (running c g) good k (F.nextLine u a e) = unchanged-follows 1 d _ refl k
-  answer-follows d p (running c g) good k (F.trailer most a e) = unchanged-follows 1 d _ refl k
+  answer-follows d p (running c g) good k (F.trailer keeps counts sound a e) = unchanged-follows 1 d _ refl k
   answer-follows d p finished good k F.closed = unchanged-follows 1 d _ refl k
+  answer-follows d p finished good k F.complete = unchanged-follows 1 d _ refl k
   answer-follows d p finished good k F.refused = unchanged-follows 1 d _ refl k

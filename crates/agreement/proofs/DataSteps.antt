@@ -32,7 +32,7 @@ use Rattle.agreement.proofs.Refusals.{refuses}
 module _ (terms : Terms) (fields : List Field) (d : Configuration) (x : ℕ) (lent : Lent d fields) (none : d .reader .released ≡ 0) (s : Show) (p : Past) where
   -- ---- data
 
-  module _ (have size : ℕ) (g : List ℕ) (k : Keeps (d .reader .fixed) s) (c : Counts (d .reader .chain) p) (sound : SoundBlock s p size) where
+  module _ (have size : ℕ) (g : List ℕ) (k : Keeps (d .reader .fixed) (d .head) s) (c : Counts (d .reader .chain) p) (sound : SoundBlock s p size) where
     abbrev filled : Phase → Configuration
     filled q = configuration (inPhase (d .reader) q) (d .head) (set (d .block) have x) (d .question)
 
@@ -76,7 +76,7 @@ module _ (terms : Terms) (fields : List Field) (d : Configuration) (x : ℕ) (le
     end-by l true =
         F.on
         (record {
-          stands = F.nextLine (under-on _ _ _ refl refl u) (none-gathered (d .reader .line)) (not-whole-empty (C.nextLine s p b) (u .sound));
+          stands = F.nextLine (under-on _ _ _ refl refl refl u) (none-gathered (d .reader .line)) (not-whole-empty (C.nextLine s p b) (u .sound));
           lent = still lent _ refl refl refl refl refl;
           taken = none;
         })
@@ -90,7 +90,7 @@ module _ (terms : Terms) (fields : List Field) (d : Configuration) (x : ℕ) (le
         rw (c .count)
         (F.on
         (record {
-          stands = F.dataEnd (under-on _ _ _ refl refl u) c (rw (c .count) refl);
+          stands = F.dataEnd (under-on _ _ _ refl refl refl u) c (rw (c .count) refl);
           lent = still lent _ refl refl refl refl (length-set (d .reader .line) 0 x);
           taken = none;
         }))

@@ -18,21 +18,26 @@ use Rattle.stream.specs.Limits.{lineLimit}
 use Rattle.stream.specs.Lines.{crlf}
 use Rattle.stream.specs.Ring.{numberOf}
 use Rattle.stream.specs.Terms.{Terms}
-use Rattle.stream.specs.Trailer.{isWholeTrailer, isTrailer}
+use Rattle.stream.specs.Trailer.{isWholeTrailer}
 use Rattle.judging.specs.Judgement.{headJudged, noneAsked, judged}
 use Rattle.judging.specs.Judgement as J
 use Rattle.state.specs.Configuration.{Configuration, configuration, inPhase, Next, on, stop, refuse}
 use Rattle.line_steps.specs.FirstLine.{firstAnswered, firstGathered, pushFirstLine}
 use Rattle.line_steps.specs.NextLine.{nextJudged, nextAnswered, nextGathered, pushNextLine}
 use Rattle.body_steps.specs.Data.{pushData, pushDataEnd}
-use Rattle.body_steps.specs.Trailer.{trailerGathered, pushTrailer}
+use Rattle.ends.specs.Judgement.{Judgement}
+use Rattle.ends.specs.declared.trailer.EndAnswer.{EndAnswer}
+use Rattle.ends.specs.declared.trailer.EndAnswer.the-variants as N
+use Rattle.trailer_steps.specs.Trailer.{trailerAnswered, judgedAt, trailerGathered, pushTrailer}
 use Rattle.line_steps.specs.NextLine as Line
 use Rattle.state.specs.Run.{follow, runOf}
 use Rattle.state.specs.declared.phase.Phase.{Phase}
 use Rattle.state.specs.declared.phase.Phase.the-variants as P
 use Rattle.calls.specs.Response.{isReading}
-use Rattle.head_steps.specs.HeadByte.{headAnswered, judgedAt, headGathered, pushHead}
+use Rattle.head_steps.specs.HeadByte.{headAnswered, headGathered, pushHead}
+use Rattle.head_steps.specs.HeadByte as HeadByte
 use Rattle.reader.specs.Feed.{pushAt, pushByte, fed}
+use Rattle.agreement.proofs.EndNumbers.{Numbered, numbered}
 use Rattle.agreement.proofs.Refusals.{line-number, head-number, of-stream}
 use Rattle.agreement.specs.Due.{isMisuse}
 
@@ -90,25 +95,37 @@ fine-next-line d have size x =
     (fine-pick (isWholeLine (take (have + 1) (set (d .reader .line) have x))) _ _
     (fine-next _ size (d .reader .fixed .«block_size») (eqb size (d .reader .fixed .«block_size»)) _ _ _ _ _ refl) refl)
 
+-- a trailer's, and the end's
+fine-answered : (d : Configuration) (have total : ℕ) (j : Judgement) → Numbered (j .answer .answer) → Fine (judgedAt d have total j)
+unfolding trailerAnswered
+fine-answered d have total j h = by (j .answer .answer) h
+  where
+    by : (a : EndAnswer) → Numbered a
+        → Fine (trailerAnswered (configuration (d .reader) (d .head) (d .block) (j .question)) have total a (j .answer .signature))
+    by N.Closes h = refl
+    by (N.Refused why) h = fine-refuse why have _ h
+    by (N.Asks n) h = refl
+
 fine-trailer : (d : Configuration) (have total x : ℕ) → Fine (pushTrailer d have total x)
 unfolding pushTrailer trailerGathered
 fine-trailer d have total x =
-    let text = take (have + 1) (set (d .block) have x) in
     fine-pick (leb (length (d .block)) have) _ _ (fine-refuse _ have d (omega arith))
-    (fine-pick (isWholeTrailer text) _ _ (fine-pick (isTrailer text) _ _ refl (fine-refuse _ (have + 1) _ (omega arith))) refl)
+    (fine-pick (isWholeTrailer (take (have + 1) (set (d .block) have x))) _ _
+    (fine-answered (configuration (inPhase (d .reader) (P.Trailer (have + 1) total)) (d .head) (set (d .block) have x) (d .question)) (have + 1) total _ (numbered _ _ total _ (d .question)))
+    refl)
 
 -- a head's refusal too
-fine-judged : (d : Configuration) (n : ℕ) (terms : Terms) (l q : List ℕ) → Fine (judgedAt d n (headJudged terms l q))
+fine-judged : (d : Configuration) (n : ℕ) (terms : Terms) (l q : List ℕ) → Fine (HeadByte.judgedAt d n (headJudged terms l q))
 unfolding headJudged headAnswered J.asked
 fine-judged d n terms l q = by (headFault terms l) refl
   where
-    room : (t : Bool) → Fine (judgedAt d n (pick t (J.asked (numberOf (trustedBy (terms .ring) (headOf l))) (headOf l) q) (judged (noneAsked 3 l) q)))
+    room : (t : Bool) → Fine (HeadByte.judgedAt d n (pick t (J.asked (numberOf (trustedBy (terms .ring) (headOf l))) (headOf l) q) (judged (noneAsked 3 l) q)))
     room true = refl
     room false = fine-refuse _ 0 _ (omega arith)
 
     by : (fault : ℕ) → headFault terms l ≡ fault
         → Fine
-        (judgedAt d n
+        (HeadByte.judgedAt d n
         (pick (eqb fault 0)
         (pick (leb (length l) (length q)) (J.asked (numberOf (trustedBy (terms .ring) (headOf l))) (headOf l) q) (judged (noneAsked 3 l) q))
         (judged (noneAsked fault l) q)))
@@ -131,7 +148,9 @@ fine-push terms d (P.DataEnd have size) x e = fine-end d have size x
 fine-push terms d (P.NextLine have size) x e = fine-next-line d have size x
 fine-push terms d (P.BlockAsked size next) x e = absurd (true≢false (sym e))
 fine-push terms d (P.Trailer have total) x e = fine-trailer d have total x
+fine-push terms d (P.EndAsked have total) x e = absurd (true≢false (sym e))
 fine-push terms d (P.Closed total) x e = absurd (true≢false (sym e))
+fine-push terms d (P.Complete total) x e = absurd (true≢false (sym e))
 fine-push terms d (P.Refused n) x e = absurd (true≢false (sym e))
 
 pub fine-run : (terms : Terms) (d : Configuration) (t : ℕ) (xs : List ℕ) → isReading (d .reader .phase) ≡ true → isMisuse (fed (runOf (pushByte terms) d t xs) .word) ≡ false

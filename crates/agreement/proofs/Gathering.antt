@@ -54,10 +54,10 @@ still l d′ h a b q n =
 
 -- the block under way, of which no byte changes
 pub under-on : {d : Configuration} {s : Show} {past : Past} {size : ℕ} {b : List ℕ} (p : Phase) (line : List ℕ) (d′ : Configuration)
-    → d′ .reader ≡ renewed (d .reader) p line (d .reader .chain) → d′ .block ≡ d .block → Under d s past size b → Under d′ s past size b
-under-on {d} p line d′ e f u =
+    → d′ .reader ≡ renewed (d .reader) p line (d .reader .chain) → d′ .head ≡ d .head → d′ .block ≡ d .block → Under d s past size b → Under d′ s past size b
+under-on {d} p line d′ e h f u =
     record {
-      keeps = rw e (u .keeps);
+      keeps = rw (e, h) (u .keeps);
       counts = rw e (u .counts);
       sound = u .sound;
       bytes = rw f (u .bytes);

@@ -22,6 +22,7 @@ use Rattle.stream.specs.Ring.{numberOf}
 use Rattle.stream.specs.Stream.{isWhole, unlessBroken, showOf, headQuestion, acceptHead, judge, judgeHead, rules}
 use Rattle.stream.specs.Stream as C
 use Rattle.stream.specs.Terms.{Terms}
+use Rattle.sha256.proofs.Parts.{start-holds}
 use Rattle.stream.proofs.SigningSize.{signing-fits}
 use Rattle.stream.proofs.SoundJudge.{SoundSays, judge-sound}
 use Rattle.handing.proofs.ValueLaws.{handed-none}
@@ -33,7 +34,7 @@ use Rattle.state.specs.declared.reader.Reader.{Reader}
 use Rattle.state.specs.declared.word.Word.the-variants as W
 use Rattle.head_steps.specs.HeadByte.{asking, fixing, headAnswered, judgedAt, headGathered, pushHead}
 use Rattle.agreement.specs.Run.{wordSeen}
-use Rattle.agreement.proofs.Stands.{Gathered, Keeps, Lent, Follows}
+use Rattle.agreement.proofs.Stands.{Gathered, Fixes, Lent, Follows}
 use Rattle.agreement.proofs.Stands as F
 use Rattle.agreement.proofs.Gathering.{gather, short, at-most, still}
 use Rattle.agreement.proofs.NextSteps.{front-length}
@@ -72,14 +73,14 @@ module _ (terms : Terms) (fields : List Field) (d : Configuration) (x : ℕ) (le
       (fixing (d′ .reader .fixed) (decimalValue (statusDigits (headOf l))) (blockSize (headOf l)) (numberOf (trustedBy (terms .ring) (headOf l)))
       (padded idLimit (injectionId (headOf l))) (length (injectionId (headOf l))))
 
-  kept : Keeps (asks .fixed) (showOf (terms .ring) (headOf l))
+  kept : Fixes (asks .fixed) (showOf (terms .ring) (headOf l))
   unfolding showOf padded
   kept = record { id = take-append-seam (injectionId (headOf l)) _; size = refl; key = refl }
 
-  question-follows : headFault terms l ≡ 0 → length l ≤ length (d .question) → SoundSays (acceptHead (terms .ring) (headOf l)) → Gathered (set (d .head) have x) (have + 1) l
+  question-follows : headFault terms l ≡ 0 → length l ≤ headLimit → length l ≤ length (d .question) → SoundSays (acceptHead (terms .ring) (headOf l)) → Gathered (set (d .head) have x) (have + 1) l
       → Follows terms fields (judgedAt d′ (have + 1) (J.asked (numberOf (trustedBy (terms .ring) (headOf l))) (headOf l) (d .question))) (ruling (acceptHead (terms .ring) (headOf l)))
   unfolding headAnswered J.asked acceptHead
-  question-follows e m h a =
+  question-follows e most m h a =
       F.says (seen-is _ (omega (arith, signing-fits terms l e)) refl) refl
       (record {
         stands =
@@ -88,16 +89,17 @@ module _ (terms : Terms) (fields : List Field) (d : Configuration) (x : ℕ) (le
               bytes = a;
               good = e;
               sound = h .1 .1;
+              short = most;
               keeps = kept;
               status = refl;
-              none = refl;
+              none = record { blocks = refl; hash = refl; body = start-holds };
               taken = none;
             });
         lent = still lent′ _ refl refl refl (front-length message (d .question) (omega (arith, signing-fits terms l e))) refl;
         taken = none;
       })
 
-  answered : (fault : ℕ) → headFault terms l ≡ fault → SoundSays (unlessBroken fault (headPlace l) (acceptHead (terms .ring) (headOf l))) → length l ≤ length (d .question)
+  answered : (fault : ℕ) → headFault terms l ≡ fault → SoundSays (unlessBroken fault (headPlace l) (acceptHead (terms .ring) (headOf l))) → length l ≤ headLimit → length l ≤ length (d .question)
       → Gathered (set (d .head) have x) (have + 1) l
       → Follows terms fields
       (judgedAt d′ (have + 1)
@@ -106,13 +108,13 @@ module _ (terms : Terms) (fields : List Field) (d : Configuration) (x : ℕ) (le
       (judged (noneAsked fault l) (d .question))))
       (ruling (unlessBroken fault (headPlace l) (acceptHead (terms .ring) (headOf l))))
   unfolding headAnswered
-  answered zero e h m a = rw (le-leb (length l) (length (d .question)) m) (question-follows e m h a)
-  answered (suc n) e h m a = rw (ne-eqb (suc n) 0 (λ e. omega arith)) (refuses _ 0 d′ (head-number terms l n e) lent′ none)
+  answered zero e h most m a = rw (le-leb (length l) (length (d .question)) m) (question-follows e most m h a)
+  answered (suc n) e h most m a = rw (ne-eqb (suc n) 0 (λ e. omega arith)) (refuses _ 0 d′ (head-number terms l n e) lent′ none)
 
   by : (t : Bool) → isWhole C.head l ≡ t → length l ≤ headLimit → Gathered (set (d .head) have x) (have + 1) l
       → Follows terms fields (pick t (judgedAt d′ (have + 1) (headJudged terms l (d .question))) (on d′)) (gathered (rules terms) t C.head l)
   unfolding rules judge judgeHead headJudged
-  by true e m a = answered (headFault terms l) refl (judge-sound terms C.head l tt e m) (omega (arith, lent .question)) a
+  by true e m a = answered (headFault terms l) refl (judge-sound terms C.head l tt e m) m (omega (arith, lent .question)) a
   by false e m a = F.on (record { stands = F.head early a e; lent = lent′; taken = none })
 
   pub head-step : Gathered (d .head) have g → isWhole C.head g ≡ false → Follows terms fields (pushHead terms d have x) (step (rules terms) C.head g x)

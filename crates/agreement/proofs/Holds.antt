@@ -74,14 +74,16 @@ module _ {terms : Terms} {d : Configuration} where
   reading-phase (F.blockData k c sound a e) = refl
   reading-phase (F.dataEnd u a e) = refl
   reading-phase (F.nextLine u a e) = refl
-  reading-phase (F.trailer most a e) = refl
+  reading-phase (F.trailer k c sound a e) = refl
 
   pub asked-phase : {p : Phase} {y : Grant Context Release LastWord} → At terms d p (asked y) → isReading p ≡ false
   asked-phase (F.headAsked a) = refl
   asked-phase (F.blockAsked a) = refl
+  asked-phase (F.endAsked a) = refl
 
   pub finished-phase : {p : Phase} → At terms d p finished → isReading p ≡ false
   finished-phase F.closed = refl
+  finished-phase F.complete = refl
   finished-phase F.refused = refl
 
   -- and stands where it stood
@@ -91,7 +93,7 @@ module _ {terms : Terms} {d : Configuration} where
   stands-back (F.blockData k c sound a e) = F.blockData k c sound a e
   stands-back (F.dataEnd u a e) = F.dataEnd (under-back u) a e
   stands-back (F.nextLine u a e) = F.nextLine (under-back u) a e
-  stands-back (F.trailer most a e) = F.trailer most a e
+  stands-back (F.trailer k c sound a e) = F.trailer k c sound a e
 
 -- ---- loans
 

@@ -2,9 +2,11 @@ pub mod Stands
 pub mod Gathering
 pub mod Rooms
 pub mod Refusals
+pub mod EndNumbers
 pub mod DataSteps
 pub mod LineSteps
 pub mod NextSteps
+pub mod TrailerSteps
 pub mod HeadSteps
 pub mod Bytes
 pub mod Holds

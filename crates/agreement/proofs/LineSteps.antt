@@ -1,4 +1,4 @@
--- A byte of the first chunk line, and of the trailer; where a line leads. Assumes nothing.
+-- A byte of the first chunk line; where a line leads. Assumes nothing.
 use mathlib.Core.Path.{_≡_, refl}
 use mathlib.Core.Bool.{Bool, true, false}
 use mathlib.Core.List.{List, [], _∷_, _++_}
@@ -7,53 +7,41 @@ use native.Mathlib.Omega.{arith}
 use borrow.Author.Tests.{ne-eqb, lt-leb}
 use lib.ListN.{length, set, length-set}
 use Rattle.octets.specs.Choice.{pick}
-use Rattle.sections.specs.Reading.{go, stop}
+use Rattle.sections.specs.Reading.{go}
 use Rattle.sections.specs.Machine.{running, ruling, gathered, step}
 use Rattle.chunk.specs.Judging.{lineJudged, unlessFault, goodLine, signatureOf}
-use Rattle.refusals.specs.Refusals.{placed}
 use Rattle.stream.specs.Blocks.{isWholeLine, chunkSize, lineFault}
-use Rattle.stream.specs.Events.{closed, refused}
-use Rattle.stream.specs.Limits.{headLimit, bodyLimit, lineLimit}
+use Rattle.stream.specs.Limits.{lineLimit}
 use Rattle.stream.specs.Lines.{Field}
-use Rattle.stream.specs.Places.{linePlace, trailerPlace}
-use Rattle.stream.specs.Stream.{Show, Past, nothing, isWhole, announced, unlessBroken, judge, judgeFirstLine, judgeTrailer, rules}
+use Rattle.stream.specs.Places.{linePlace}
+use Rattle.stream.specs.Stream.{Show, Past, nothing, isWhole, announced, unlessBroken, judge, judgeFirstLine, rules}
 use Rattle.stream.specs.Stream as C
 use Rattle.stream.specs.Terms.{Terms}
-use Rattle.stream.specs.Trailer.{isWholeTrailer, isTrailer}
 use Rattle.stream.proofs.Sound.{SoundShow, Sound, not-whole-empty}
 use Rattle.stream.proofs.SoundJudge.{SoundSays, judge-sound}
-use Rattle.state.specs.Configuration.{Configuration, configuration, inPhase, on, moved, refuse, noSignature, lined}
-use Rattle.state.specs.Configuration as D
+use Rattle.state.specs.Configuration.{Configuration, on, moved, lined}
 use Rattle.line_steps.specs.FirstLine.{firstAnswered, firstGathered, pushFirstLine}
-use Rattle.body_steps.specs.Trailer.{trailerGathered, pushTrailer}
 use Rattle.line_steps.specs.FirstLine as Line
 use Rattle.state.specs.declared.phase.Phase.{Phase}
 use Rattle.state.specs.declared.phase.Phase.the-variants as P
-use Rattle.state.specs.declared.reader.Chain.{Chain}
-use Rattle.state.specs.declared.word.Word.the-variants as W
-use Rattle.agreement.specs.Run.{wordSeen}
 use Rattle.agreement.proofs.Stands.{Gathered, Keeps, Counts, Lent, At, Follows}
 use Rattle.agreement.proofs.Stands as F
 use Rattle.agreement.proofs.Gathering.{none-gathered, gather, short, at-most, still}
 use Rattle.agreement.proofs.Refusals.{refuses, line-number}
 
 -- the phase that a line of so many bytes announces stands for the context that it announces
-pub announced-at : {terms : Terms} (d : Configuration) (s : Show) (p : Past) (total n : ℕ) → Keeps (d .reader .fixed) s → Counts (d .reader .chain) p
+pub announced-at : {terms : Terms} (d : Configuration) (s : Show) (p : Past) (total n : ℕ) → Keeps (d .reader .fixed) (d .head) s → Counts (d .reader .chain) p
     → Sound (announced s p total n) → At terms d (Line.announced n total) (running (announced s p total n) [])
-announced-at d s p total zero k c h = F.trailer h (none-gathered (d .block)) (not-whole-empty (C.trailer total) h)
+announced-at d s p total zero k c h = F.trailer k c h (none-gathered (d .block)) (not-whole-empty (C.trailer s p total) h)
 announced-at d s p total (suc n) k c h = rw (ne-eqb (suc n) 0 (λ e. omega arith)) (F.blockData k c h (none-gathered (d .block)) (not-whole-empty (C.blockData s p (suc n)) h))
 
 -- the same where the reader has counted the total
-pub announced-by : {terms : Terms} (d : Configuration) (s : Show) (p : Past) (t total n : ℕ) → t ≡ total → Keeps (d .reader .fixed) s → Counts (d .reader .chain) p
+pub announced-by : {terms : Terms} (d : Configuration) (s : Show) (p : Past) (t total n : ℕ) → t ≡ total → Keeps (d .reader .fixed) (d .head) s → Counts (d .reader .chain) p
     → Sound (announced s p total n) → At terms d (Line.announced n t) (running (announced s p total n) [])
 announced-by d s p t total n e k c h = rw e (announced-at d s p total n k c h)
 
--- before the first block
-pub none-before : (c : Chain) → c .number .0 ≡ 0 → Counts c nothing
-none-before c e = record { blocks = e; hash = rw e refl }
-
 module _ (terms : Terms) (fields : List Field) (d : Configuration) (x : ℕ) (lent : Lent d fields) (none : d .reader .released ≡ 0) where
-  module _ (s : Show) (k : Keeps (d .reader .fixed) s) (sound : SoundShow s) (zero-blocks : d .reader .chain .number .0 ≡ 0) (have : ℕ) (g : List ℕ) where
+  module _ (s : Show) (k : Keeps (d .reader .fixed) (d .head) s) (sound : SoundShow s) (zero-blocks : Counts (d .reader .chain) nothing) (have : ℕ) (g : List ℕ) where
     abbrev l : List ℕ
     l = g ++ x ∷ []
 
@@ -70,7 +58,7 @@ module _ (terms : Terms) (fields : List Field) (d : Configuration) (x : ℕ) (le
     answered zero e h =
         F.on
         (record {
-          stands = announced-at _ s nothing 0 (chunkSize l) k (none-before _ zero-blocks) h;
+          stands = announced-at _ s nothing 0 (chunkSize l) k zero-blocks h;
           lent = lent′ _;
           taken = none;
         })
@@ -91,41 +79,3 @@ module _ (terms : Terms) (fields : List Field) (d : Configuration) (x : ℕ) (le
         let m : have < lineLimit = rw (a .count) at (short (C.firstLine s) g e) in
         let b = gather (d .reader .line) g have x a (rw (lent .line) m) in
         rw (lt-leb lineLimit have m, b .bytes) (by (d .reader .fixed .«block_size») (k .size) (isWholeLine l) refl (at-most (C.firstLine s) g x e) b)
-
-  -- ---- the trailer
-
-  module _ (have total : ℕ) (g : List ℕ) (most : total ≤ bodyLimit) where
-    abbrev text : List ℕ
-    text = g ++ x ∷ []
-
-    abbrev after : Configuration
-    after = configuration (inPhase (d .reader) (P.Trailer (have + 1) total)) (d .head) (set (d .block) have x) (d .question)
-
-    lent-after : (q : Phase) → Lent (moved after q) fields
-    lent-after q = still lent _ refl refl (length-set (d .block) have x) refl refl
-
-    closed-by : (t : Bool)
-        → Follows terms fields (pick t (D.stop (W.Closed total) noSignature (moved after (P.Closed total))) (refuse (placed 6 (trailerPlace text)) (have + 1) after))
-        (ruling (elim t [ true ↦ stop (closed total) | false ↦ stop (refused 6 (trailerPlace text)) ]))
-    unfolding wordSeen
-    closed-by true = F.says refl refl (record { stands = F.closed; lent = lent-after _; taken = none })
-    closed-by false = refuses _ (have + 1) after (omega arith) (lent-after (P.Trailer (have + 1) total)) none
-
-    trailer-by : (t : Bool) → isWhole (C.trailer total) text ≡ t → Gathered (set (d .block) have x) (have + 1) text
-        → Follows terms fields
-        (pick t
-        (pick (isTrailer text) (D.stop (W.Closed total) noSignature (moved after (P.Closed total))) (refuse (placed 6 (trailerPlace text)) (have + 1) after))
-        (on after))
-        (gathered (rules terms) t (C.trailer total) text)
-    unfolding rules judge judgeTrailer
-    trailer-by true e a = closed-by (isTrailer text)
-    trailer-by false e a = F.on (record { stands = F.trailer most a e; lent = lent-after _; taken = none })
-
-    pub trailer-step : Gathered (d .block) have g → isWhole (C.trailer total) g ≡ false
-        → Follows terms fields (pushTrailer d have total x) (step (rules terms) (C.trailer total) g x)
-    unfolding pushTrailer trailerGathered step rules isWhole
-    trailer-step a e =
-        let m : have < headLimit = rw (a .count) at (short (C.trailer total) g e) in
-        let h : have < length (d .block) = omega (arith, lent .block) in
-        let b = gather (d .block) g have x a h in
-        rw (lt-leb (length (d .block)) have h, b .bytes) (trailer-by (isWholeTrailer text) refl b)

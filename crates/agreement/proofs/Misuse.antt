@@ -17,7 +17,7 @@ use Rattle.state.specs.declared.phase.Phase.the-variants as P
 use Rattle.calls.specs.Response as R
 use Rattle.calls.specs.Response.{fits, unchanged, given, recalled}
 use Rattle.reader.specs.Feed.{takenFrom, feedOf}
-use Rattle.calls.specs.Answer.{headAnswer, blockAnswer, answerAt, answerOf, endOf}
+use Rattle.calls.specs.Answer.{headAnswer, blockAnswer, answerAt, answerOf, endOf, endAnswer}
 use Rattle.agreement.specs.Run.{called}
 use Rattle.agreement.proofs.FineBytes.{Fine, fine-refuse, fine-run}
 use Rattle.agreement.specs.Due.{isAsking, isDue, isMisuse}
@@ -35,7 +35,7 @@ call-pick true c e a b = a
 call-pick false c e a b = b
 
 fine-answer : (d : Configuration) (p : Phase) (good : Bool) → isAsking p ≡ true → isMisuse (answerAt p d good .word) ≡ false
-unfolding answerAt headAnswer blockAnswer
+unfolding answerAt headAnswer blockAnswer endAnswer
 fine-answer d (P.Head n) good e = absurd (true≢false (sym e))
 fine-answer d (P.HeadAsked n) good e = call-pick good _ _ refl (given-fine (refuse (plain 10) 0 d) (fine-refuse _ 0 d (omega arith)))
 fine-answer d (P.FirstLine n) good e = absurd (true≢false (sym e))
@@ -44,7 +44,9 @@ fine-answer d (P.DataEnd have size) good e = absurd (true≢false (sym e))
 fine-answer d (P.NextLine have size) good e = absurd (true≢false (sym e))
 fine-answer d (P.BlockAsked size next) good e = call-pick good _ _ refl (given-fine (refuse (plain 10) size d) (fine-refuse _ size d (omega arith)))
 fine-answer d (P.Trailer have total) good e = absurd (true≢false (sym e))
+fine-answer d (P.EndAsked have total) good e = call-pick good _ _ refl (given-fine (refuse (plain 10) have d) (fine-refuse _ have d (omega arith)))
 fine-answer d (P.Closed total) good e = absurd (true≢false (sym e))
+fine-answer d (P.Complete total) good e = absurd (true≢false (sym e))
 fine-answer d (P.Refused n) good e = absurd (true≢false (sym e))
 
 answer-early : (d : Configuration) (p : Phase) (good : Bool) → isAsking p ≡ false → answerAt p d good ≡ unchanged 1 d
@@ -57,7 +59,9 @@ answer-early d (P.DataEnd have size) good e = refl
 answer-early d (P.NextLine have size) good e = refl
 answer-early d (P.BlockAsked size next) good e = absurd (true≢false e)
 answer-early d (P.Trailer have total) good e = refl
+answer-early d (P.EndAsked have total) good e = absurd (true≢false e)
 answer-early d (P.Closed total) good e = refl
+answer-early d (P.Complete total) good e = refl
 answer-early d (P.Refused n) good e = refl
 
 module _ (keys : KeyRing) (uri : List ℕ) (d : Configuration) where

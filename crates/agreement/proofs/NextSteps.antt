@@ -16,6 +16,8 @@ use Rattle.chunk.specs.Judging.{lineJudged, unlessFault, goodLine, signatureOf}
 use Rattle.blocks.specs.Place.{offsetAt}
 use Rattle.blocks.specs.Writing.{atFront, messageWritten}
 use Rattle.number.specs.Writing.{written}
+use Rattle.sha256.specs.Midstate.{Holds}
+use Rattle.sha256.proofs.Parts.{added-holds}
 use Rattle.stream.specs.Blocks.{isWholeLine, carriesSignature, chunkSize, lineSignature, lineRules, lineFault, chained, blockMessage}
 use Rattle.stream.specs.Limits.{lineLimit, bodyLimit}
 use Rattle.stream.specs.Lines.{Field}
@@ -28,7 +30,7 @@ use Rattle.stream.proofs.RulesHold.{rules-hold}
 use Rattle.stream.proofs.Sound.{SoundBlock}
 use Rattle.stream.proofs.SoundJudge.{SoundSays, judge-sound}
 use Rattle.state.specs.Configuration.{Configuration, on, lined}
-use Rattle.line_steps.specs.NextLine.{offsetNow, nextJudged, hashNow, messageNow, nextAnswered, nextGathered, pushNextLine}
+use Rattle.line_steps.specs.NextLine.{offsetNow, nextJudged, hashNow, bodyNow, messageNow, nextAnswered, nextGathered, pushNextLine}
 use Rattle.line_steps.specs.NextLine as Line
 use Rattle.state.specs.declared.phase.Phase.the-variants as P
 use Rattle.state.specs.declared.reader.Reader.{Reader}
@@ -42,11 +44,11 @@ use Rattle.agreement.proofs.Refusals.{refuses, line-number}
 -- ---- places
 
 -- the places of blocks within the body's limit are far below the largest number
-pub offset-now : (r : Reader) (s : Show) (p : Past) (n : ℕ) → Keeps (r .fixed) s → r .chain .number .0 ≡ p .blocks → SoundBlock s p n → offsetNow r .0 ≡ blockOffset s p
+pub offset-now : (r : Reader) (s : Show) (p : Past) (n : ℕ) {room : List ℕ} → Keeps (r .fixed) room s → r .chain .number .0 ≡ p .blocks → SoundBlock s p n → offsetNow r .0 ≡ blockOffset s p
 unfolding offsetAt
 offset-now r s p n k e h = rw (k .size, e) (omega (arith, h .body))
 
-pub body-now : (r : Reader) (s : Show) (p : Past) (b : List ℕ) (n : ℕ) → length b ≡ n → Keeps (r .fixed) s → r .chain .number .0 ≡ p .blocks → SoundBlock s p (length b)
+pub body-now : (r : Reader) (s : Show) (p : Past) (b : List ℕ) (n : ℕ) {room : List ℕ} → length b ≡ n → Keeps (r .fixed) room s → r .chain .number .0 ≡ p .blocks → SoundBlock s p (length b)
     → Line.bodyWith r n ≡ bodyWith s p b
 unfolding Line.bodyWith
 body-now r s p b n c k e h = rw (← c, offset-now r s p (length b) k e h) (omega (arith, h .body))
@@ -87,6 +89,9 @@ module _ (terms : Terms) (fields : List Field) (d : Configuration) (x : ℕ) (le
   hash-is : hashNow d′ size ≡ chained (p .hash) b
   hash-is = rw (u .counts .hash, u .bytes .bytes)
 
+  body-is : Holds (bodyNow d′ size) (p .body ++ b)
+  body-is = rw (u .bytes .bytes) (added-holds (p .body) b (u .counts .body))
+
   offset-is : offsetNow (d′ .reader) .0 ≡ blockOffset s p
   offset-is = offset-now (d′ .reader) s p (length b) (u .keeps) (u .counts .blocks) (u .sound)
 
@@ -119,6 +124,7 @@ module _ (terms : Terms) (fields : List Field) (d : Configuration) (x : ℕ) (le
               keeps = u .keeps;
               blocks = u .counts .blocks;
               hash = hash-is;
+              body = body-is;
               sound = u .sound;
               onward = h .1 .1;
               bytes = u .bytes;
@@ -153,7 +159,7 @@ module _ (terms : Terms) (fields : List Field) (d : Configuration) (x : ℕ) (le
   by true e m a =
       rw judged-is
       (answered (lineFault (s .size) true (eqb (length b) (s .size)) (bodyWith s p b) l) refl (judge-sound terms (C.nextLine s p b) l (u .sound) e m))
-  by false e m a = F.on (record { stands = F.nextLine (under-on _ _ _ refl refl u) a e; lent = lent′; taken = none })
+  by false e m a = F.on (record { stands = F.nextLine (under-on _ _ _ refl refl refl u) a e; lent = lent′; taken = none })
 
   pub next-step : Gathered (d .reader .line) have g → isWhole (C.nextLine s p b) g ≡ false
       → Follows terms fields (pushNextLine d have size x) (step (rules terms) (C.nextLine s p b) g x)

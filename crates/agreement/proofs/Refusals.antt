@@ -11,8 +11,9 @@ use Rattle.sections.specs.Calls.{isOfCall, event}
 use Rattle.sections.specs.Machine.{finished, decides}
 use Rattle.refusals.specs.declared.Refusal.{Refusal}
 use Rattle.stream.specs.Blocks.{lineRules, lineFault}
+use Rattle.stream.specs.Ends.{endRules, endFault}
 use Rattle.stream.specs.Events.{refused}
-use Rattle.stream.specs.Head.{headOf, textRules, callerRules, headFault}
+use Rattle.stream.specs.Head.{Head, headOf, textRules, callerRules, headFault}
 use Rattle.stream.specs.Lines.{Field}
 use Rattle.stream.specs.Terms.{Terms}
 use Rattle.stream.proofs.RulesHold.{broken-numbered}
@@ -33,6 +34,10 @@ line-number N due full sofar l k e = leb-true 3 (suc k) (broken-numbered (leb 3)
 pub head-number : (terms : Terms) (l : List ℕ) (k : ℕ) → headFault terms l ≡ suc k → 3 ≤ suc k
 unfolding headFault textRules callerRules
 head-number terms l k e = leb-true 3 (suc k) (broken-numbered (leb 3) (textRules l (headOf l) ++ callerRules terms (headOf l)) k refl e)
+
+pub end-number : (h : Head) (fs : List Field) (total : ℕ) (hash : List ℕ) (k : ℕ) → endFault h fs total hash ≡ suc k → 3 ≤ suc k
+unfolding endFault endRules
+end-number h fs total hash k e = leb-true 3 (suc k) (broken-numbered (leb 3) (endRules h fs total hash) k refl e)
 
 -- ---- the refusal
 

@@ -18,7 +18,7 @@ use Rattle.stream.specs.Head.{isWholeHead}
 use Rattle.stream.specs.Limits.{lineLimit, ringLimit}
 use Rattle.stream.specs.Lines.{crlf}
 use Rattle.stream.specs.Terms.{Terms}
-use Rattle.stream.specs.Trailer.{isWholeTrailer, isTrailer}
+use Rattle.stream.specs.Trailer.{isWholeTrailer}
 use Rattle.judging.specs.declared.HeadAnswer.{HeadAnswer}
 use Rattle.judging.specs.declared.HeadAnswer.the-variants as H
 use Rattle.state.specs.Configuration.{Configuration, Next, on, stop, noSignature, pending, refuse}
@@ -30,8 +30,10 @@ use Rattle.line_steps.specs.FirstLine.{firstAnswered, firstGathered, pushFirstL
 use Rattle.line_steps.specs.NextLine.{nextAnswered, nextGathered, pushNextLine}
 use Rattle.line_steps.specs.NextLine as Line
 use Rattle.body_steps.specs.Data.{pushData, pushDataEnd}
-use Rattle.body_steps.specs.Trailer.{trailerGathered, pushTrailer}
-use Rattle.calls.specs.Answer.{headAnswer, blockAnswer, answerAt, answerOf, endOf}
+use Rattle.ends.specs.declared.trailer.EndAnswer.{EndAnswer}
+use Rattle.ends.specs.declared.trailer.EndAnswer.the-variants as N
+use Rattle.trailer_steps.specs.Trailer.{trailerAnswered, trailerGathered, pushTrailer}
+use Rattle.calls.specs.Answer.{headAnswer, blockAnswer, answerAt, answerOf, endOf, endAnswer}
 use Rattle.calls.specs.Response as R
 use Rattle.calls.specs.Response.{fits, isReading, recalled, given}
 use Rattle.reader.specs.Feed.{pushAt, pushByte, fed, takenFrom, feedOf}
@@ -67,6 +69,12 @@ unfolding headAnswered
 unsigned-head d n (H.Refused k) signature id = unsigned-refuse k 0 d
 unsigned-head d n (H.Asks status size key idLength length) signature id = λ e. absurd (true≢false e)
 
+unsigned-trailer : (d : Configuration) (have total : ℕ) (a : EndAnswer) (signature : List ℕ) → Unsigned (trailerAnswered d have total a signature)
+unfolding trailerAnswered
+unsigned-trailer d have total N.Closes signature = λ e. refl
+unsigned-trailer d have total (N.Refused why) signature = unsigned-refuse why have d
+unsigned-trailer d have total (N.Asks n) signature = λ e. absurd (true≢false e)
+
 unsigned-push : (terms : Terms) (d : Configuration) (p : Phase) (x : ℕ) → Unsigned (pushAt terms p d x)
 unfolding pushAt pushHead headGathered pushData pushDataEnd pushFirstLine firstGathered pushNextLine nextGathered pushTrailer trailerGathered
 unsigned-push terms d (P.Head have) x =
@@ -86,8 +94,10 @@ unsigned-push terms d (P.BlockAsked size next) x = λ e. refl
 unsigned-push terms d (P.Trailer have total) x =
     let text = take (have + 1) (set (d .block) have x) in
     unsigned-pick (leb (length (d .block)) have) _ _ (unsigned-refuse _ have d)
-    (unsigned-pick (isWholeTrailer text) _ _ (unsigned-pick (isTrailer text) _ _ (λ e. refl) (unsigned-refuse _ (have + 1) _)) tt)
+    (unsigned-pick (isWholeTrailer text) _ _ (unsigned-trailer _ (have + 1) total _ _) tt)
+unsigned-push terms d (P.EndAsked have total) x = λ e. refl
 unsigned-push terms d (P.Closed total) x = λ e. refl
+unsigned-push terms d (P.Complete total) x = λ e. refl
 unsigned-push terms d (P.Refused n) x = λ e. refl
 
 -- ---- a call
@@ -114,7 +124,7 @@ unfolding refuse
 given-unsigned why count d = λ e. refl
 
 unsigned-answer : (d : Configuration) (p : Phase) (good : Bool) → UnsignedCall (answerAt p d good)
-unfolding answerAt headAnswer blockAnswer
+unfolding answerAt headAnswer blockAnswer endAnswer
 unsigned-answer d (P.Head n) good = λ e. refl
 unsigned-answer d (P.HeadAsked n) good = call-pick good _ _ (λ e. refl) (given-unsigned _ 0 d)
 unsigned-answer d (P.FirstLine n) good = λ e. refl
@@ -123,7 +133,9 @@ unsigned-answer d (P.DataEnd have size) good = λ e. refl
 unsigned-answer d (P.NextLine have size) good = λ e. refl
 unsigned-answer d (P.BlockAsked size next) good = call-pick good _ _ (λ e. refl) (given-unsigned _ size d)
 unsigned-answer d (P.Trailer have total) good = λ e. refl
+unsigned-answer d (P.EndAsked have total) good = call-pick good _ _ (λ e. refl) (given-unsigned _ have d)
 unsigned-answer d (P.Closed total) good = λ e. refl
+unsigned-answer d (P.Complete total) good = λ e. refl
 unsigned-answer d (P.Refused n) good = λ e. refl
 
 -- NO OTHER WORD comes with anything but zeros.

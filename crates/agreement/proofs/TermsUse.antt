@@ -20,13 +20,15 @@ use Rattle.stream.specs.Head.{isWholeHead}
 use Rattle.stream.specs.Limits.{lineLimit, ringLimit}
 use Rattle.stream.specs.Lines.{crlf}
 use Rattle.stream.specs.Terms.{Terms}
-use Rattle.stream.specs.Trailer.{isWholeTrailer, isTrailer}
+use Rattle.stream.specs.Trailer.{isWholeTrailer}
 use Rattle.state.specs.Configuration.{Configuration, Next, on, stop, goesOn, refuse}
 use Rattle.head_steps.specs.HeadByte.{headAnswered, headGathered, pushHead}
 use Rattle.line_steps.specs.FirstLine.{firstAnswered, firstGathered, pushFirstLine}
 use Rattle.line_steps.specs.NextLine.{nextAnswered, nextGathered, pushNextLine}
 use Rattle.body_steps.specs.Data.{pushData, pushDataEnd}
-use Rattle.body_steps.specs.Trailer.{trailerGathered, pushTrailer}
+use Rattle.ends.specs.declared.trailer.EndAnswer.{EndAnswer}
+use Rattle.ends.specs.declared.trailer.EndAnswer.the-variants as N
+use Rattle.trailer_steps.specs.Trailer.{trailerAnswered, trailerGathered, pushTrailer}
 use Rattle.line_steps.specs.NextLine as Line
 use Rattle.state.specs.Run.{Fed, follow, runOf}
 use Rattle.state.specs.declared.phase.Phase.{Phase}
@@ -63,6 +65,12 @@ unfolding nextAnswered Line.asked
 past-next d size (A.Refused n) signature = past-refuse n size d
 past-next d size (A.Good next) signature = tt
 
+past-trailer : (d : Configuration) (have total : ℕ) (a : EndAnswer) (signature : List ℕ) → Past (trailerAnswered d have total a signature)
+unfolding trailerAnswered
+past-trailer d have total N.Closes signature = tt
+past-trailer d have total (N.Refused why) signature = past-refuse why have d
+past-trailer d have total (N.Asks n) signature = tt
+
 past-push : (terms : Terms) (d : Configuration) (p : Phase) (x : ℕ) → isInHead p ≡ false → Past (pushAt terms p d x)
 unfolding pushAt pushData pushDataEnd pushFirstLine firstGathered pushNextLine nextGathered pushTrailer trailerGathered
 past-push terms d (P.Head have) x e = absurd (true≢false e)
@@ -82,8 +90,10 @@ past-push terms d (P.BlockAsked size next) x e = tt
 past-push terms d (P.Trailer have total) x e =
     let text = take (have + 1) (set (d .block) have x) in
     past-pick (leb (length (d .block)) have) _ _ (past-refuse _ have d)
-    (past-pick (isWholeTrailer text) _ _ (past-pick (isTrailer text) _ _ tt (past-refuse _ (have + 1) _)) refl)
+    (past-pick (isWholeTrailer text) _ _ (past-trailer _ (have + 1) total _ _) refl)
+past-push terms d (P.EndAsked have total) x e = tt
 past-push terms d (P.Closed total) x e = tt
+past-push terms d (P.Complete total) x e = tt
 past-push terms d (P.Refused n) x e = tt
 
 push-same : (terms terms′ : Terms) (d : Configuration) (p : Phase) (x : ℕ) → isInHead p ≡ false → pushAt terms p d x ≡ pushAt terms′ p d x
@@ -96,7 +106,9 @@ push-same terms terms′ d (P.DataEnd have size) x e = refl
 push-same terms terms′ d (P.NextLine have size) x e = refl
 push-same terms terms′ d (P.BlockAsked size next) x e = refl
 push-same terms terms′ d (P.Trailer have total) x e = refl
+push-same terms terms′ d (P.EndAsked have total) x e = refl
 push-same terms terms′ d (P.Closed total) x e = refl
+push-same terms terms′ d (P.Complete total) x e = refl
 push-same terms terms′ d (P.Refused n) x e = refl
 
 run-same : (terms terms′ : Terms) (xs : List ℕ) (d : Configuration) (t : ℕ) → isInHead (d .reader .phase) ≡ false
@@ -153,7 +165,9 @@ quiet-push terms terms′ d (P.DataEnd have size) x = alike _
 quiet-push terms terms′ d (P.NextLine have size) x = alike _
 quiet-push terms terms′ d (P.BlockAsked size next) x = alike _
 quiet-push terms terms′ d (P.Trailer have total) x = alike _
+quiet-push terms terms′ d (P.EndAsked have total) x = alike _
 quiet-push terms terms′ d (P.Closed total) x = alike _
+quiet-push terms terms′ d (P.Complete total) x = alike _
 quiet-push terms terms′ d (P.Refused n) x = alike _
 
 run-quiet : (terms terms′ : Terms) (xs : List ℕ) (d : Configuration) (t : ℕ) → goesOn (fed (runOf (pushByte terms) d t xs) .word) ≡ true

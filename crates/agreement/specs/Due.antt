@@ -19,7 +19,9 @@ isAsking (P.DataEnd have size) = false
 isAsking (P.NextLine have size) = false
 isAsking (P.BlockAsked size next) = true
 isAsking (P.Trailer have total) = false
+isAsking (P.EndAsked have total) = true
 isAsking (P.Closed total) = false
+isAsking (P.Complete total) = false
 isAsking (P.Refused n) = false
 
 -- the call is due: "feed or end with a question open, answer with none open, any call after a final event" is not
@@ -38,7 +40,9 @@ isInHead (P.DataEnd have size) = false
 isInHead (P.NextLine have size) = false
 isInHead (P.BlockAsked size next) = false
 isInHead (P.Trailer have total) = false
+isInHead (P.EndAsked have total) = false
 isInHead (P.Closed total) = false
+isInHead (P.Complete total) = false
 isInHead (P.Refused n) = false
 
 -- the word is refusal 1 or 2
@@ -48,6 +52,7 @@ isMisuse (W.Question n key) = false
 isMisuse (W.Head status) = false
 isMisuse (W.Block offset n) = false
 isMisuse (W.Closed total) = false
+isMisuse (W.Complete total) = false
 isMisuse (W.Refused why) = isOfCall (why .number)
 
 -- the word asks a question: with it goes a signature
@@ -57,6 +62,7 @@ isQuestion (W.Question n key) = true
 isQuestion (W.Head status) = false
 isQuestion (W.Block offset n) = false
 isQuestion (W.Closed total) = false
+isQuestion (W.Complete total) = false
 isQuestion (W.Refused n) = false
 
 -- between the two, both included

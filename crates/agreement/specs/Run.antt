@@ -12,7 +12,7 @@ use Rattle.ring.specs.declared.KeyRing.{KeyRing}
 use Rattle.sections.specs.Reading.{question, message, last}
 use Rattle.sections.specs.Calls.{isOfCall, Request, feed, answer, end, Reply, more, event, misused}
 use Rattle.sections.specs.Calls as S
-use Rattle.stream.specs.Events.{Question, LastWord, closed, refused}
+use Rattle.stream.specs.Events.{Question, LastWord, closed, complete, refused}
 use Rattle.handing.specs.Handing.{handedValue, handedCount}
 use Rattle.state.specs.Configuration.{Configuration, configuration, freshReader}
 use Rattle.state.specs.declared.word.Word.the-variants as W
@@ -81,6 +81,7 @@ wordSeen (W.Question n key) signature d = questionSeen n key signature (d .quest
 wordSeen (W.Head status) signature d = event (message (headAccepted status (valuesSeen d)))
 wordSeen (W.Block offset n) signature d = event (message (block (offset .0) n (blockSeen d)))
 wordSeen (W.Closed total) signature d = event (last (closed total))
+wordSeen (W.Complete total) signature d = event (last (complete total))
 wordSeen (W.Refused why) signature d = refusal why
 
 unfoldable pub observed : R.Response → Observation

@@ -72,7 +72,9 @@ module _ (push : Configuration → ℕ → Next) (rule : PushesData push) (h q :
   by-phase (P.NextLine have size) e = none
   by-phase (P.BlockAsked size next) e = none
   by-phase (P.Trailer have total) e = none
+  by-phase (P.EndAsked have total) e = none
   by-phase (P.Closed total) e = none
+  by-phase (P.Complete total) e = none
   by-phase (P.Refused n) e = none
 
   -- THE RUN: the piece from here is its rest from where the run leaves the reader
@@ -90,7 +92,9 @@ module _ (r : Reader) (b xs : List ℕ) where
   within (P.NextLine have size) = omega arith
   within (P.BlockAsked size next) = omega arith
   within (P.Trailer have total) = omega arith
+  within (P.EndAsked have total) = omega arith
   within (P.Closed total) = omega arith
+  within (P.Complete total) = omega arith
   within (P.Refused n) = omega arith
 
   -- a run has no more bytes than there are

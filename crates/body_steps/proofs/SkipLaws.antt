@@ -46,15 +46,17 @@ module _ (r : Reader) (b xs : List ℕ) where
   skipped-at p p' s e f = f ∙ ap (λ (p : Phase). skippedAt p r b xs) (sym e)
 
   -- all phases but the fourth, by their numbers
-  pub no-data : (p : Phase) → OneOf (0 ∷ 1 ∷ 2 ∷ 4 ∷ 5 ∷ 6 ∷ 7 ∷ 8 ∷ 9 ∷ []) (tagOf the-type p) → skipTo r 0 b ≡ skippedAt p r b xs
+  pub no-data : (p : Phase) → OneOf (0 ∷ 1 ∷ 2 ∷ 4 ∷ 5 ∷ 6 ∷ 7 ∷ 8 ∷ 9 ∷ 10 ∷ 11 ∷ []) (tagOf the-type p) → skipTo r 0 b ≡ skippedAt p r b xs
   unfolding skippedAt
   no-data (P.Head n) h = refl
   no-data (P.HeadAsked n) h = refl
   no-data (P.FirstLine n) h = refl
-  no-data (P.Data have size) h = absurd (miss (0 ∷ 1 ∷ 2 ∷ 4 ∷ 5 ∷ 6 ∷ 7 ∷ 8 ∷ 9 ∷ []) 3 tt h)
+  no-data (P.Data have size) h = absurd (miss (0 ∷ 1 ∷ 2 ∷ 4 ∷ 5 ∷ 6 ∷ 7 ∷ 8 ∷ 9 ∷ 10 ∷ 11 ∷ []) 3 tt h)
   no-data (P.DataEnd have size) h = refl
   no-data (P.NextLine have size) h = refl
   no-data (P.BlockAsked size next) h = refl
   no-data (P.Trailer have total) h = refl
+  no-data (P.EndAsked have total) h = refl
   no-data (P.Closed total) h = refl
+  no-data (P.Complete total) h = refl
   no-data (P.Refused n) h = refl

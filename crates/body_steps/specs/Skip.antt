@@ -44,7 +44,9 @@ skippedAt (P.DataEnd have size) r b xs = skipTo r 0 b
 skippedAt (P.NextLine have size) r b xs = skipTo r 0 b
 skippedAt (P.BlockAsked size next) r b xs = skipTo r 0 b
 skippedAt (P.Trailer have total) r b xs = skipTo r 0 b
+skippedAt (P.EndAsked have total) r b xs = skipTo r 0 b
 skippedAt (P.Closed total) r b xs = skipTo r 0 b
+skippedAt (P.Complete total) r b xs = skipTo r 0 b
 skippedAt (P.Refused n) r b xs = skipTo r 0 b
 
 abbrev pub skipped : Reader → List ℕ → List ℕ → Skip

@@ -1,33 +1,28 @@
--- What a byte of a block's data, of the CR LF after it, and of the trailer leaves. Assumes nothing.
+-- What a byte of a block's data, and of the CR LF after it, leaves. Assumes nothing.
 use mathlib.Core.Path.{_≡_, sym, _∙_}
 use mathlib.Core.Bool.{Bool, true, false}
 use mathlib.Core.List.{List, [], _∷_, _++_}
-use Prim.Native.Nat.{ℕ, zero, suc, _+_, _<_}
+use Prim.Native.Nat.{ℕ, zero, suc, _<_}
 use native.Mathlib.Omega.{arith}
 use borrow.Author.Tests.{lt-leb}
-use lib.ListN.{length, set, getD}
+use lib.ListN.{length, getD}
 use lib.Seq.{take-suc}
 use Rattle.octets.specs.Choice.{pick}
 use Rattle.sections.specs.Reading.{go, stop}
 use Rattle.sections.proofs.Marks.{markOf, rulingOn, gatheredOn, move}
 use Rattle.refusals.specs.Refusals.{placed}
-use Rattle.stream.specs.Buffers.{Buffers, intoBlock, withSection, pending, withLastWord, effects}
+use Rattle.stream.specs.Buffers.{Buffers, intoBlock, withSection, pending, effects}
 use Rattle.stream.specs.Bytes.{same}
-use Rattle.stream.specs.Events.{closed, refused}
-use Rattle.stream.specs.Limits.{headLimit}
+use Rattle.stream.specs.Events.{refused}
 use Rattle.stream.specs.Lines.{Field, crlf}
-use Rattle.stream.specs.Places.{dataEndPlace, trailerPlace}
-use Rattle.stream.specs.Stream.{Show, Past, isWhole, judge, judgeDataEnd, judgeTrailer, rules}
+use Rattle.stream.specs.Places.{dataEndPlace}
+use Rattle.stream.specs.Stream.{Show, Past, isWhole, judge, judgeDataEnd, rules}
 use Rattle.stream.specs.Stream as C
 use Rattle.stream.specs.Terms.{Terms}
-use Rattle.stream.specs.Trailer.{isWholeTrailer, isTrailer}
 use Rattle.stream.proofs.Sound.{SoundBlock}
-use Rattle.state.specs.Configuration.{Configuration, configuration, inPhase, on, moved, refuse, noSignature}
-use Rattle.state.specs.Configuration as D
+use Rattle.state.specs.Configuration.{Configuration, on, moved, refuse}
 use Rattle.state.specs.declared.phase.Phase.the-variants as P
-use Rattle.state.specs.declared.word.Word.the-variants as W
 use Rattle.body_steps.specs.Data.{pushData, pushDataEnd}
-use Rattle.body_steps.specs.Trailer.{trailerGathered, pushTrailer}
 use Rattle.agreement.proofs.Stands.{Gathered, Lent, Under}
 use Rattle.agreement.proofs.Gathering.{gather, short}
 use Rattle.buffers.specs.Left.{buffersIn}
@@ -76,37 +71,3 @@ module _ (terms : Terms) (fields : List Field) (d : Configuration) (x : ℕ) (le
         let k : g ≡ getD (d .reader .line) 0 0 ∷ [] = sym (a .bytes) ∙ take-suc (d .reader .line) 0 0 h in
         rw k (end-by (same (getD (d .reader .line) 0 0 ∷ x ∷ []) crlf) _ f)
     end-leaves (suc (suc n)) g a e f = absurd (omega (arith, short (C.dataEnd s p block) g e, a .count))
-
-  -- ---- the trailer
-
-  module _ (have total : ℕ) (g : List ℕ) where
-    abbrev text : List ℕ
-    text = g ++ x ∷ []
-
-    abbrev after : Configuration
-    after = configuration (inPhase (d .reader) (P.Trailer (have + 1) total)) (d .head) (set (d .block) have x) (d .question)
-
-    closed-by : (t : Bool) → Gathered (after .block) (have + 1) text → buffersIn after ≡ intoBlock text b
-        → Left terms (afterNext (pick t (D.stop (W.Closed total) noSignature (moved after (P.Closed total))) (refuse (placed 6 (trailerPlace text)) (have + 1) after)))
-        (markOf (rulingOn (rules terms) effects (C.trailer total) text (elim t [ true ↦ stop (closed total) | false ↦ stop (refused 6 (trailerPlace text)) ]) (intoBlock text b)))
-    unfolding pending withLastWord
-    closed-by true a f = record { same = f; waits = tt }
-    closed-by false a f = refuses after (intoBlock text b) f _ (have + 1) (C.trailer total) text (sym (a .count)) (within a)
-
-    trailer-by : (t : Bool) → Gathered (after .block) (have + 1) text → buffersIn after ≡ intoBlock text b
-        → Left terms
-        (afterNext (pick t (pick (isTrailer text) (D.stop (W.Closed total) noSignature (moved after (P.Closed total))) (refuse (placed 6 (trailerPlace text)) (have + 1) after)) (on after)))
-        (markOf (gatheredOn (rules terms) effects t (C.trailer total) text b))
-    unfolding rules judge judgeTrailer withSection
-    trailer-by true a f = closed-by (isTrailer text) a f
-    trailer-by false a f = record { same = f; waits = tt }
-
-    pub trailer-leaves : Gathered (d .block) have g → isWhole (C.trailer total) g ≡ false → buffersIn d ≡ withSection (C.trailer total) g b
-        → Left terms (afterNext (pushTrailer d have total x)) (markOf (move (rules terms) effects (C.trailer total) g b x))
-    unfolding pushTrailer trailerGathered move rules isWhole withSection
-    trailer-leaves a e f =
-        let m : have < headLimit = rw (a .count) at (short (C.trailer total) g e) in
-        let h : have < length (d .block) = omega (arith, lent .block) in
-        let c = gather (d .block) g have x a h in
-        rw (lt-leb (length (d .block)) have h, c .bytes)
-        (trailer-by (isWholeTrailer text) c (block-more (buffersIn d) b g have x f (a .count) h))

@@ -42,7 +42,7 @@ none-gathered (firstLine s) b = refl
 none-gathered (blockData s p n) b = refl
 none-gathered (dataEnd s p d) b = refl
 none-gathered (nextLine s p d) b = refl
-none-gathered (trailer total) b = refl
+none-gathered (trailer s p total) b = refl
 
 pub cleared-front : (n : ℕ) (l : List ℕ) → n ≤ length l → cleared n l ≡ front (replicate n 0) l
 unfolding cleared

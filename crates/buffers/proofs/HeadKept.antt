@@ -11,11 +11,13 @@ use Rattle.sections.specs.Leaving.{afterVerdict, outOfBytes, afterSection, afte
 use Rattle.stream.specs.Blocks.{chunkSize, lineFault}
 use Rattle.stream.specs.Buffers.{Buffers, front, withSection, withMessage, pending, withLastWord, effects, buffersAfter, headBytes}
 use Rattle.stream.specs.Bytes.{same}
-use Rattle.stream.specs.Events.{LastWord, closed, refused}
+use Rattle.sha256.specs.Sha256.{sha256}
+use Rattle.stream.specs.Ends.{allFields, isClaimed, endFault}
+use Rattle.stream.specs.Events.{LastWord, closed, complete, refused}
 use Rattle.stream.specs.Head.{headOf, headFault, isWholeHead}
-use Rattle.stream.specs.Lines.{crlf}
+use Rattle.stream.specs.Lines.{crlf, Field}
 use Rattle.stream.specs.Places.{headPlace, linePlace, dataEndPlace, trailerPlace}
-use Rattle.stream.specs.Stream.{Show, Past, nothing, after, bodyWith, Context, head, firstLine, blockData, dataEnd, nextLine, trailer, isWhole, Says, announced, unlessBroken, acceptHead, acceptBlock, judgeHead, judgeFirstLine, judgeDataEnd, judgeNextLine, judgeTrailer, judge, rules}
+use Rattle.stream.specs.Stream.{Show, Past, nothing, after, bodyWith, Context, head, firstLine, blockData, dataEnd, nextLine, trailer, isWhole, Says, announced, unlessBroken, acceptHead, acceptBlock, judgeHead, judgeFirstLine, judgeDataEnd, judgeNextLine, endQuestion, judgeEnd, judgeTrailer, judge, rules}
 use Rattle.stream.specs.Terms.{Terms}
 use Rattle.stream.specs.Trailer.{isTrailer}
 
@@ -25,7 +27,7 @@ isPast (firstLine s) = true
 isPast (blockData s p n) = true
 isPast (dataEnd s p d) = true
 isPast (nextLine s p d) = true
-isPast (trailer total) = true
+isPast (trailer s p total) = true
 
 -- where a section leads, the head is past
 abbrev Onward : Says → Type 0
@@ -43,6 +45,19 @@ unless-onward : (fault place : ℕ) (v : Says) → Onward v → Onward (unlessBr
 unless-onward zero place v h = h
 unless-onward (suc n) place v h = tt
 
+end-onward : (s : Show) (total : ℕ) (hash : List ℕ) (fs : List Field) → Onward (judgeEnd s total hash fs)
+unfolding judgeEnd
+end-onward s total hash fs = by (isClaimed fs)
+  where
+    by : (t : Bool)
+        → Onward
+        (elim t [
+          | true ↦ unlessBroken (endFault (s .head) fs total hash) 0 (ask (endQuestion s fs) (final (complete total)))
+          | false ↦ stop (closed total)
+        ])
+    by true = unless-onward (endFault (s .head) fs total hash) 0 (ask (endQuestion s fs) (final (complete total))) tt
+    by false = tt
+
 judge-onward : (terms : Terms) (c : Context) (l : List ℕ) → Onward (judge terms c l)
 unfolding judge judgeHead judgeFirstLine judgeDataEnd judgeNextLine judgeTrailer acceptHead acceptBlock
 judge-onward terms head l = unless-onward (headFault terms l) (headPlace l) (acceptHead (terms .ring) (headOf l)) refl
@@ -57,10 +72,15 @@ judge-onward terms (dataEnd s p d) l = by (same l crlf)
 judge-onward terms (nextLine s p d) l =
     unless-onward (lineFault (s .size) true (eqb (length d) (s .size)) (bodyWith s p d) l) (linePlace l) (acceptBlock s p d l)
     (announced-past s (after p d) (bodyWith s p d) (chunkSize l))
-judge-onward terms (trailer total) l = by (isTrailer l)
+judge-onward terms (trailer s p total) l = by (isTrailer l)
   where
-    by : (t : Bool) → Onward (elim t [ true ↦ stop (closed total) | false ↦ stop (refused 6 (trailerPlace l)) ])
-    by true = tt
+    by : (t : Bool)
+        → Onward
+        (elim t [
+          | true ↦ judgeEnd s total (sha256 (p .body)) (allFields (s .head) l)
+          | false ↦ stop (refused 6 (trailerPlace l))
+        ])
+    by true = end-onward s total (sha256 (p .body)) (allFields (s .head) l)
     by false = tt
 
 -- ---- what changes the head buffer
@@ -68,6 +88,7 @@ judge-onward terms (trailer total) l = by (isTrailer l)
 finished-head : (c : Context) (l : List ℕ) (w : LastWord) (b : Buffers) → withLastWord c l w b .head ≡ b .head
 unfolding withLastWord
 finished-head c l (closed total) b = refl
+finished-head c l (complete total) b = refl
 finished-head c l (refused n at) b = refl
 
 gathered-head : (c : Context) (l : List ℕ) (b : Buffers) → isPast c ≡ true → withSection c l b .head ≡ b .head
@@ -77,7 +98,7 @@ gathered-head (firstLine s) l b h = refl
 gathered-head (blockData s p n) l b h = refl
 gathered-head (dataEnd s p d) l b h = refl
 gathered-head (nextLine s p d) l b h = refl
-gathered-head (trailer total) l b h = refl
+gathered-head (trailer s p total) l b h = refl
 
 module _ (terms : Terms) where
   last-head : (c : Context) (l : List ℕ) (told : Bool) (b : Buffers) → outOfBytes (rules terms) effects c l told b .head ≡ b .head

@@ -1,6 +1,7 @@
 pub mod Fronts
 pub mod Leaves
 pub mod BodyBytes
+pub mod TrailerBytes
 pub mod LineBytes
 pub mod HeadBytes
 pub mod Pieces

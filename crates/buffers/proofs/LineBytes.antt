@@ -41,7 +41,7 @@ module _ (terms : Terms) (fields : List Field) (d : Configuration) (x : ℕ) (le
 
   -- ---- the first line
 
-  module _ (s : Show) (k : Keeps (d .reader .fixed) s) where
+  module _ (s : Show) (k : Keeps (d .reader .fixed) (d .head) s) where
     abbrev first : Configuration
     first = lined d (P.FirstLine (have + 1)) line
 

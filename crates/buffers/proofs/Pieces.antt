@@ -20,7 +20,8 @@ use Rattle.agreement.proofs.Stands as F
 use Rattle.agreement.proofs.Bytes.{byte-at}
 use Rattle.buffers.specs.Left.{buffersIn}
 use Rattle.buffers.proofs.Leaves.{Left, afterNext}
-use Rattle.buffers.proofs.BodyBytes.{data-leaves, end-leaves, trailer-leaves}
+use Rattle.buffers.proofs.BodyBytes.{data-leaves, end-leaves}
+use Rattle.buffers.proofs.TrailerBytes.{trailer-leaves}
 use Rattle.buffers.proofs.LineBytes.{first-leaves, next-leaves}
 use Rattle.buffers.proofs.HeadBytes.{head-leaves}
 
@@ -34,7 +35,7 @@ module _ (terms : Terms) (fields : List Field) where
   byte-leaves d x p b l z (F.blockData {have} {size} {g} {s} {p = q} k c sound a e) f = data-leaves terms fields d x l b s q have size g sound a e f
   byte-leaves d x p b l z (F.dataEnd {have} {size} {b = block} {g} {s} {p = q} u a e) f = end-leaves terms fields d x l b s q size block u have g a e f
   byte-leaves d x p b l z (F.nextLine {have} {size} {b = block} {g} {s} {p = q} u a e) f = next-leaves terms fields d x l b f have g z s q size block u a e
-  byte-leaves d x p b l z (F.trailer {have} {total} {g} most a e) f = trailer-leaves terms fields d x l b have total g a e f
+  byte-leaves d x p b l z (F.trailer {have} {total} {g} {s} {p = q} k c sound a e) f = trailer-leaves terms fields d x l z b s q k c have total g a e f
 
   -- A PIECE
   pub piece-leaves : (piece : List ℕ) (t : ℕ) (d : Configuration) (c : Context) (g : List ℕ) (b : Buffers) → Reads terms fields d (running c g)

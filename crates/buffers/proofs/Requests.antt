@@ -11,14 +11,14 @@ use Rattle.sections.specs.Machine.{running}
 use Rattle.sections.proofs.Marks.{midway, waiting, done, stateOf}
 use Rattle.sections.proofs.Marking.{respondTo}
 use Rattle.refusals.specs.Refusals.{plain}
-use Rattle.stream.specs.Buffers.{withSection, pending, effects}
+use Rattle.stream.specs.Buffers.{withSection, withLastWord, pending, effects}
 use Rattle.stream.specs.Stream.{Context, rules}
 use Rattle.stream.specs.Terms.{Terms}
 use Rattle.state.specs.Configuration.{Configuration, refuse}
 use Rattle.state.specs.Configuration as D
 use Rattle.state.specs.declared.phase.Phase.{Phase}
 use Rattle.calls.specs.Response.{given, isReading, unchanged, recalled}
-use Rattle.calls.specs.Answer.{answerAt, headAnswer, blockAnswer, releasing}
+use Rattle.calls.specs.Answer.{answerAt, headAnswer, blockAnswer, endAnswer, releasing}
 use Rattle.reader.specs.Feed.{takenFrom}
 use Rattle.agreement.specs.Plain.{Handed}
 use Rattle.agreement.proofs.Stands.{At}
@@ -52,7 +52,7 @@ module _ (terms : Terms) (h : Handed) (d : Configuration) where
   counted p c g (F.blockData k t sound a e) = sym (a .count)
   counted p c g (F.dataEnd u a e) = sym (u .bytes .count)
   counted p c g (F.nextLine u a e) = sym (u .bytes .count)
-  counted p c g (F.trailer most a e) = sym (a .count)
+  counted p c g (F.trailer k t sound a e) = sym (a .count)
 
   -- and lie within the buffer
   roomy : (p : Phase) (c : Context) (g : List ℕ) → At terms d p (running c g) → D.pending p ≤ length (d .block)
@@ -61,7 +61,7 @@ module _ (terms : Terms) (h : Handed) (d : Configuration) where
   roomy p c g (F.blockData k t sound a e) = within a
   roomy p c g (F.dataEnd u a e) = within (u .bytes)
   roomy p c g (F.nextLine u a e) = within (u .bytes)
-  roomy p c g (F.trailer most a e) = within a
+  roomy p c g (F.trailer k t sound a e) = within a
 
   pub end-leaves : (m : Reached) → Holds terms d h (stateOf m) → Left terms d m
       → Left terms (pick (isReading (d .reader .phase)) (given 0 (refuse (plain 11) (D.pending (d .reader .phase)) (recalled d))) (unchanged 1 d) .after) (respondTo (rules terms) effects m end)
@@ -76,16 +76,19 @@ module _ (terms : Terms) (h : Handed) (d : Configuration) where
 
   pub answer-leaves : (p : Phase) (m : Reached) (good : Bool) → At terms d p (stateOf m) → Left terms d m → Waits p m
       → Left terms (answerAt p d good .after) (respondTo (rules terms) effects m (answer good))
-  unfolding answerAt headAnswer blockAnswer releasing respondTo rules refuse
+  unfolding answerAt headAnswer blockAnswer endAnswer releasing respondTo rules refuse withLastWord
   answer-leaves p (waiting c t y b) true (F.headAsked a) l w = begins _ b (l .same) _
   answer-leaves p (waiting c t y b) false (F.headAsked a) l w = refuses d b (l .same) (plain 10) 0 c t w (omega arith)
   answer-leaves p (waiting c t y b) true (F.blockAsked a) l w = begins _ b (l .same) _
   answer-leaves p (waiting c t y b) false (F.blockAsked {size} a) l w = refuses d b (l .same) (plain 10) size c t w (within (a .bytes))
+  answer-leaves p (waiting c t y b) true (F.endAsked a) l w = record { same = l .same; waits = tt }
+  answer-leaves p (waiting c t y b) false (F.endAsked {have} a) l w = refuses d b (l .same) (plain 10) have c t w (within (a .gathered))
   answer-leaves p (midway c g b) good (F.head early a e) l w = l
   answer-leaves p (midway c g b) good (F.firstLine k sound none a e) l w = l
   answer-leaves p (midway c g b) good (F.blockData k t sound a e) l w = l
   answer-leaves p (midway c g b) good (F.dataEnd u a e) l w = l
   answer-leaves p (midway c g b) good (F.nextLine u a e) l w = l
-  answer-leaves p (midway c g b) good (F.trailer most a e) l w = l
+  answer-leaves p (midway c g b) good (F.trailer k t sound a e) l w = l
   answer-leaves p (done b) good F.closed l w = l
+  answer-leaves p (done b) good F.complete l w = l
   answer-leaves p (done b) good F.refused l w = l

@@ -23,7 +23,7 @@ use Rattle.state.specs.declared.word.Word.{Word}
 use Rattle.state.specs.declared.word.Word.the-variants as W
 use Rattle.state.proofs.BufferLaws.{length-cleared}
 use Rattle.state.proofs.KeptLaws.{deskOf}
-use Rattle.calls.specs.Answer.{answerAt, answerOf, endOf, headAnswer, blockAnswer}
+use Rattle.calls.specs.Answer.{answerAt, answerOf, endOf, headAnswer, blockAnswer, endAnswer}
 use Rattle.calls.specs.Response as R
 use Rattle.calls.specs.Response.{areRoomy, fits, isReading, recalled, given, unchanged}
 use Rattle.stream.proofs.Truth.{left-holds, right-holds}
@@ -69,6 +69,7 @@ longer {d} {e} {c} l b =
     again (W.Head status) n = tt
     again (W.Block o n) m = rw (l .block) at m
     again (W.Closed total) n = tt
+    again (W.Complete total) n = tt
     again (W.Refused k) n = tt
 
 run-bound : (terms : Terms) (xs : List ℕ) (d : Configuration) (t : ℕ) → Bound d (fed (runOf (pushByte terms) d t xs))
@@ -105,6 +106,11 @@ unfolding headAnswer
 head-bound n d true = record { long = record { head = refl; block = refl; question = refl }; named = tt }
 head-bound n d false = bound-refuse d _ 0
 
+end-answer-bound : (have total : ℕ) (d : Configuration) (good : Bool) → Bound d (endAnswer have total d good)
+unfolding endAnswer
+end-answer-bound have total d true = record { long = record { head = refl; block = refl; question = refl }; named = tt }
+end-answer-bound have total d false = bound-refuse d _ have
+
 answer-at-bound : (p : Phase) (d : Configuration) (good : Bool) → blockLimit ≤ length (d .block) → Bound d (answerAt p d good)
 unfolding answerAt
 answer-at-bound (P.Head n) d good m = bound-unchanged d 1
@@ -115,7 +121,9 @@ answer-at-bound (P.DataEnd have size) d good m = bound-unchanged d 1
 answer-at-bound (P.NextLine have size) d good m = bound-unchanged d 1
 answer-at-bound (P.BlockAsked size next) d good m = block-bound size next d good m
 answer-at-bound (P.Trailer have total) d good m = bound-unchanged d 1
+answer-at-bound (P.EndAsked have total) d good m = end-answer-bound have total d good
 answer-at-bound (P.Closed total) d good m = bound-unchanged d 1
+answer-at-bound (P.Complete total) d good m = bound-unchanged d 1
 answer-at-bound (P.Refused n) d good m = bound-unchanged d 1
 
 answer-bound : (d : Configuration) (good : Bool) → Bound d (answerOf d good)

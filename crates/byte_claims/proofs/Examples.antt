@@ -15,6 +15,10 @@ use Rattle.calls.specs.Answer.{endOf}
 use Rattle.calls.specs.Response.{areRoomy, takingBack}
 use Rattle.fronts.specs.Fronts.{endFront}
 use Rattle.layout.specs.State.{stateSize, stored, decoded}
+use Rattle.packing.proofs.PartLaws.{Words, none, more}
+use Rattle.sha256.specs.Midstate.{start}
+use Rattle.sha256.specs.Sha256.{initialWords}
+use Rattle.layout.proofs.BodyLaws.{SoundBody}
 use Rattle.layout.proofs.StateLaws.{Sound, decoded-stored, long-stored}
 use Rattle.results.specs.Results.{resultSize}
 use Rattle.results.specs.Written.{areLong}
@@ -25,6 +29,28 @@ use Rattle.byte_claims.specs.Examples.{held, theEnd, BytesMet, CallsAreM
 
 zeros : (n : ℕ) → length (replicate {A = ℕ} n 0) ≡ n
 zeros n = length-replicate n 0
+
+-- SHA-256's first words are words
+fresh-words : Words initialWords
+fresh-words =
+    more {w = 0x6a09_e667} (omega arith)
+    (more {w = 0xbb67_ae85} (omega arith)
+    (more {w = 0x3c6e_f372} (omega arith)
+    (more {w = 0xa54f_f53a} (omega arith)
+    (more {w = 0x510e_527f} (omega arith)
+    (more {w = 0x9b05_688c} (omega arith)
+    (more {w = 0x1f83_d9ab} (omega arith)
+    (more {w = 0x5be0_cd19} (omega arith) none)))))))
+
+fresh-body : SoundBody start
+unfolding start
+fresh-body =
+    record {
+      words = refl;
+      small = fresh-words;
+      rest = zeros 64;
+      count = omega arith;
+    }
 
 fresh-sound : Sound freshReader
 unfolding freshReader
@@ -40,7 +66,7 @@ fresh-sound =
             id = zeros idLimit;
             count = omega arith;
           };
-      chain = record { number = omega arith; hash = zeros 64 };
+      chain = record { number = omega arith; hash = zeros 64; body = fresh-body };
       line = zeros lineLimit;
       released = omega arith;
     }

@@ -39,6 +39,7 @@ Named (W.Question n key) d = n ≤ length (d .question)
 Named (W.Head status) d = Unit {0}
 Named (W.Block o n) d = (n ≤ blockLimit) × (n ≤ length (d .block))
 Named (W.Closed total) d = Unit {0}
+Named (W.Complete total) d = Unit {0}
 Named (W.Refused n) d = Unit {0}
 
 abbrev pub NamedNext : Next → Configuration → Type 0

@@ -56,6 +56,7 @@ module _ (d : Configuration) (taken : ℕ) (signature t : List ℕ) (room : resu
   question-within (W.Head status) m e = absurd (omega (arith, e))
   question-within (W.Block o n) m e = absurd (omega (arith, e))
   question-within (W.Closed total) m e = absurd (omega (arith, e))
+  question-within (W.Complete total) m e = absurd (omega (arith, e))
   question-within (W.Refused n) m e = absurd (omega (arith, e))
 
   pub block-within : (w : Word) → Named w (firstParts d) → wordOf w ≡ 3 → Within blockLimit (d .block) (numberAt (resultIn w taken signature t) 24)
@@ -66,6 +67,7 @@ module _ (d : Configuration) (taken : ℕ) (signature t : List ℕ) (room : resu
       rw (second-in (W.Block o n) taken signature t room (omega (arith, m .0)))
       (record { named = m .0; lent = omega (arith, m .1, length-take blockLimit (d .block)) })
   block-within (W.Closed total) m e = absurd (omega (arith, e))
+  block-within (W.Complete total) m e = absurd (omega (arith, e))
   block-within (W.Refused n) m e = absurd (omega (arith, e))
 
 pub long-result : (s t : List ℕ) → areLong (length s) (length t) ≡ true → resultSize ≤ length t

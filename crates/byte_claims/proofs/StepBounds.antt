@@ -18,7 +18,7 @@ use Rattle.stream.specs.Bytes.{same}
 use Rattle.stream.specs.Limits.{lineLimit}
 use Rattle.stream.specs.Lines.{crlf}
 use Rattle.stream.specs.Terms.{Terms}
-use Rattle.stream.specs.Trailer.{isWholeTrailer, isTrailer}
+use Rattle.stream.specs.Trailer.{isWholeTrailer}
 use Rattle.judging.specs.Judgement.{asked}
 use Rattle.state.specs.Configuration.{Configuration, Next}
 use Rattle.state.specs.declared.phase.Phase.{Phase}
@@ -29,8 +29,12 @@ use Rattle.line_steps.specs.NextLine.{messageNow, nextAnswered, nextGathered, p
 use Rattle.line_steps.specs.NextLine as Line
 use Rattle.line_steps.proofs.KeptLines.{kept-first-line, kept-next-line}
 use Rattle.body_steps.specs.Data.{pushData, pushDataEnd}
-use Rattle.body_steps.specs.Trailer.{trailerGathered, pushTrailer}
-use Rattle.body_steps.proofs.KeptBody.{kept-data, kept-data-end, kept-trailer}
+use Rattle.body_steps.proofs.KeptBody.{kept-data, kept-data-end}
+use Rattle.ends.specs.declared.trailer.EndAnswer.{EndAnswer}
+use Rattle.ends.specs.declared.trailer.EndAnswer.the-variants as N
+use Rattle.ends.proofs.QuestionKept.{Within, judgement-kept}
+use Rattle.trailer_steps.specs.Trailer.{trailerAnswered, trailerGathered, pushTrailer}
+use Rattle.trailer_steps.proofs.KeptTrailer.{kept-trailer}
 use Rattle.reader.specs.Feed.{pushAt}
 use Rattle.byte_claims.proofs.HeadBounds.{Long, NamedNext, named-pick, named-refuse, head-long, head-named}
 
@@ -54,6 +58,14 @@ unfolding nextAnswered Line.asked messageNow
 named-next d e size (A.Refused n) signature p = named-refuse n size d e
 named-next d e size (A.Good next) signature p = rw p (count-fits _ (d .question))
 
+-- ---- the trailer
+
+named-trailer : (d e : Configuration) (have total : ℕ) (a : EndAnswer) (signature : List ℕ) → Within (length (e .question)) a → NamedNext (trailerAnswered d have total a signature) e
+unfolding trailerAnswered
+named-trailer d e have total N.Closes signature w = tt
+named-trailer d e have total (N.Refused why) signature w = named-refuse why have d e
+named-trailer d e have total (N.Asks n) signature w = w
+
 -- ---- any byte
 
 of-kept : {d : Configuration} {n : Next} → Kept d n → Long d (deskOf n)
@@ -69,7 +81,9 @@ long-push terms d (P.DataEnd have size) x = of-kept (kept-data-end d have size x
 long-push terms d (P.NextLine have size) x = of-kept (kept-next-line d have size x)
 long-push terms d (P.BlockAsked size next) x = record { head = refl; block = refl; question = refl }
 long-push terms d (P.Trailer have total) x = of-kept (kept-trailer d have total x)
+long-push terms d (P.EndAsked have total) x = record { head = refl; block = refl; question = refl }
 long-push terms d (P.Closed total) x = record { head = refl; block = refl; question = refl }
+long-push terms d (P.Complete total) x = record { head = refl; block = refl; question = refl }
 long-push terms d (P.Refused n) x = record { head = refl; block = refl; question = refl }
 
 pub named-push : (terms : Terms) (d : Configuration) (p : Phase) (x : ℕ) → NamedNext (pushAt terms p d x) d
@@ -89,6 +103,8 @@ named-push terms d (P.BlockAsked size next) x = tt
 named-push terms d (P.Trailer have total) x =
     let text = take (have + 1) (set (d .block) have x) in
     named-pick d (leb (length (d .block)) have) _ _ (named-refuse _ have d d)
-    (named-pick d (isWholeTrailer text) _ _ (named-pick d (isTrailer text) _ _ tt (named-refuse _ (have + 1) _ d)) tt)
+    (named-pick d (isWholeTrailer text) _ _ (named-trailer _ d (have + 1) total _ _ (judgement-kept _ _ total _ (d .question) .within)) tt)
+named-push terms d (P.EndAsked have total) x = tt
 named-push terms d (P.Closed total) x = tt
+named-push terms d (P.Complete total) x = tt
 named-push terms d (P.Refused n) x = tt

@@ -14,7 +14,7 @@ use Rattle.stream.specs.Limits.{ringLimit}
 use Rattle.state.specs.Configuration.{Configuration, refuse}
 use Rattle.state.specs.declared.phase.Phase.{Phase}
 use Rattle.state.specs.declared.phase.Phase.the-variants as P
-use Rattle.calls.specs.Answer.{headAnswer, blockAnswer, answerAt, answerOf, endOf}
+use Rattle.calls.specs.Answer.{headAnswer, blockAnswer, endAnswer, answerAt, answerOf, endOf}
 use Rattle.calls.specs.Response.{Response, fits, isReading, recalled, given}
 use Rattle.reader.specs.Feed.{pushByte, takenFrom, feedOf}
 use Rattle.agreement.specs.Run.{called}
@@ -30,7 +30,7 @@ unfolding refuse
 refused-taken n why count d = omega arith
 
 answer-taken : (p : Phase) (d : Configuration) (good : Bool) → answerAt p d good .taken ≤ 0
-unfolding answerAt headAnswer blockAnswer
+unfolding answerAt headAnswer blockAnswer endAnswer
 answer-taken (P.Head n) d good = omega arith
 answer-taken (P.HeadAsked n) d good = taken-pick 0 good _ _ (omega arith) (refused-taken 0 _ 0 d)
 answer-taken (P.FirstLine n) d good = omega arith
@@ -39,7 +39,9 @@ answer-taken (P.DataEnd have size) d good = omega arith
 answer-taken (P.NextLine have size) d good = omega arith
 answer-taken (P.BlockAsked size next) d good = taken-pick 0 good _ _ (omega arith) (refused-taken 0 _ size d)
 answer-taken (P.Trailer have total) d good = omega arith
+answer-taken (P.EndAsked have total) d good = taken-pick 0 good _ _ (omega arith) (refused-taken 0 _ have d)
 answer-taken (P.Closed total) d good = omega arith
+answer-taken (P.Complete total) d good = omega arith
 answer-taken (P.Refused n) d good = omega arith
 
 pub call-taken : (keys : KeyRing) (uri : List ℕ) (d : Configuration) (r : Request) → called keys uri d r .taken ≤ atMost r

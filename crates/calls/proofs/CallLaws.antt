@@ -48,19 +48,21 @@ refused-call s h b q why count d e =
 pub answer-at : (p p' : Phase) (d : Configuration) (good : Bool) (c : Response) → p ≡ p' → c ≡ answerAt p' d good → c ≡ answerAt p d good
 answer-at p p' d good c e f = f ∙ ap (λ (p : Phase). answerAt p d good) (sym e)
 
--- all phases but the second and the seventh, by their numbers
-pub no-question : (p : Phase) (d : Configuration) (good : Bool) → OneOf (0 ∷ 2 ∷ 3 ∷ 4 ∷ 5 ∷ 6 ∷ 7 ∷ 8 ∷ 9 ∷ []) (tagOf the-type p) → OneOf (0 ∷ 1 ∷ 2 ∷ 3 ∷ 4 ∷ 5 ∷ 7 ∷ 8 ∷ 9 ∷ []) (tagOf the-type p) → unchanged 1 d ≡ answerAt p d good
+-- all phases but the three in which a question is open, by their numbers
+pub no-question : (p : Phase) (d : Configuration) (good : Bool) → OneOf (0 ∷ 2 ∷ 3 ∷ 4 ∷ 5 ∷ 6 ∷ 7 ∷ 8 ∷ 9 ∷ 10 ∷ 11 ∷ []) (tagOf the-type p) → OneOf (0 ∷ 1 ∷ 2 ∷ 3 ∷ 4 ∷ 5 ∷ 7 ∷ 8 ∷ 9 ∷ 10 ∷ 11 ∷ []) (tagOf the-type p) → OneOf (0 ∷ 1 ∷ 2 ∷ 3 ∷ 4 ∷ 5 ∷ 6 ∷ 7 ∷ 9 ∷ 10 ∷ 11 ∷ []) (tagOf the-type p) → unchanged 1 d ≡ answerAt p d good
 unfolding answerAt
-no-question (P.Head n) d good h k = refl
-no-question (P.HeadAsked n) d good h k = absurd (miss (0 ∷ 2 ∷ 3 ∷ 4 ∷ 5 ∷ 6 ∷ 7 ∷ 8 ∷ 9 ∷ []) 1 tt h)
-no-question (P.FirstLine n) d good h k = refl
-no-question (P.Data have size) d good h k = refl
-no-question (P.DataEnd have size) d good h k = refl
-no-question (P.NextLine have size) d good h k = refl
-no-question (P.BlockAsked size next) d good h k = absurd (miss (0 ∷ 1 ∷ 2 ∷ 3 ∷ 4 ∷ 5 ∷ 7 ∷ 8 ∷ 9 ∷ []) 6 tt k)
-no-question (P.Trailer have total) d good h k = refl
-no-question (P.Closed total) d good h k = refl
-no-question (P.Refused n) d good h k = refl
+no-question (P.Head n) d good h k l = refl
+no-question (P.HeadAsked n) d good h k l = absurd (miss (0 ∷ 2 ∷ 3 ∷ 4 ∷ 5 ∷ 6 ∷ 7 ∷ 8 ∷ 9 ∷ 10 ∷ 11 ∷ []) 1 tt h)
+no-question (P.FirstLine n) d good h k l = refl
+no-question (P.Data have size) d good h k l = refl
+no-question (P.DataEnd have size) d good h k l = refl
+no-question (P.NextLine have size) d good h k l = refl
+no-question (P.BlockAsked size next) d good h k l = absurd (miss (0 ∷ 1 ∷ 2 ∷ 3 ∷ 4 ∷ 5 ∷ 7 ∷ 8 ∷ 9 ∷ 10 ∷ 11 ∷ []) 6 tt k)
+no-question (P.Trailer have total) d good h k l = refl
+no-question (P.EndAsked have total) d good h k l = absurd (miss (0 ∷ 1 ∷ 2 ∷ 3 ∷ 4 ∷ 5 ∷ 6 ∷ 7 ∷ 9 ∷ 10 ∷ 11 ∷ []) 8 tt l)
+no-question (P.Closed total) d good h k l = refl
+no-question (P.Complete total) d good h k l = refl
+no-question (P.Refused n) d good h k l = refl
 
 -- ---- the number of the block after
 

@@ -6,7 +6,7 @@ use Rattle.blocks.specs.declared.offsets.BlockNumber.{BlockNumber}
 use Rattle.octets.specs.Choice.{pick}
 use Rattle.refusals.specs.Refusals.{plain}
 use Rattle.stream.specs.Limits.{blockLimit}
-use Rattle.state.specs.Configuration.{Configuration, configuration, readerAt, pending, refuse}
+use Rattle.state.specs.Configuration.{Configuration, configuration, readerAt, moved, pending, refuse}
 use Rattle.state.specs.declared.phase.Phase.{Phase}
 use Rattle.state.specs.declared.phase.Phase.the-variants as P
 use Rattle.state.specs.declared.reader.Chain.{Chain}
@@ -43,7 +43,7 @@ following i = record { 0 = min (i .0 + 1) largest }
 
 -- the chain once its block is released
 abbrev pub followed : Chain → Chain
-followed c = record { number = following (c .number); hash = c .hash }
+followed c = record { number = following (c .number); hash = c .hash; body = c .body }
 
 -- the block of `size` bytes is handed out, and what the line has announced follows
 unfoldable pub releasing : Reader → ℕ → ℕ → Reader
@@ -61,6 +61,13 @@ blockAnswer size next d good =
     (configuration (releasing (d .reader) (blockLength size) next) (d .head) (d .block) (d .question)))
     (given 0 (refuse (plain 10) size d))
 
+-- ---- the question about the end
+
+-- request #101: "A yes gives a new last word, *complete*, with the total"; a no refusal 10, with the trailer of `have` bytes pending
+unfoldable pub endAnswer : ℕ → ℕ → Configuration → Bool → Response
+endAnswer have total d good =
+    pick good (telling (W.Complete total) 0 (moved d (P.Complete total))) (given 0 (refuse (plain 10) have d))
+
 -- ---- the calls
 
 unfoldable pub answerAt : Phase → Configuration → Bool → Response
@@ -72,7 +79,9 @@ answerAt (P.DataEnd have size) d good = unchanged 1 d
 answerAt (P.NextLine have size) d good = unchanged 1 d
 answerAt (P.BlockAsked size next) d good = blockAnswer size next d good
 answerAt (P.Trailer have total) d good = unchanged 1 d
+answerAt (P.EndAsked have total) d good = endAnswer have total d good
 answerAt (P.Closed total) d good = unchanged 1 d
+answerAt (P.Complete total) d good = unchanged 1 d
 answerAt (P.Refused n) d good = unchanged 1 d
 
 -- "2 is tested before 1"; 1 is an "answer with none open"

@@ -60,7 +60,9 @@ isReading (P.DataEnd have size) = true
 isReading (P.NextLine have size) = true
 isReading (P.BlockAsked size next) = false
 isReading (P.Trailer have total) = true
+isReading (P.EndAsked have total) = false
 isReading (P.Closed total) = false
+isReading (P.Complete total) = false
 isReading (P.Refused n) = false
 
 -- a block is handed out "until the next feed or end that isn't refused by 1 or 2"

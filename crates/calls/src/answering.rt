@@ -14,7 +14,7 @@ ghost use mathlib.Core.Path.{_≡_};
 ghost use Prim.Native.Nat.{ℕ};
 ghost use Rattle.state.specs.Configuration.{configuration};
 ghost use Rattle.calls.specs.Response.{made};
-ghost use Rattle.calls.specs.Answer.{accepting, following as followingOf, releasing, headAnswer, blockAnswer, answerOf};
+ghost use Rattle.calls.specs.Answer.{accepting, following as followingOf, releasing, headAnswer, blockAnswer, endAnswer, answerOf};
 
 const LARGEST: u64 = 0xffff_ffff_ffff_ffff;
 
@@ -89,6 +89,22 @@ fn answer_block(r: Reader, block: &mut [u8], size: usize, next: usize, good: boo
     told(Word::Block { offset, length }, 0, released(r, length, next))
 }
 
+// The answer about the end of the show, whose trailer of `have` bytes is pending.
+fn answer_end(r: Reader, block: &mut [u8], have: usize, total: u64, good: bool) -> Outcome
+    ensures { λ o. ⌜ ((h q : List ℕ) → made o h (now (block .exit)) q ≡ endAnswer have total (configuration r h (now (block .entry)) q) good) ⌝ }
+{
+    if !good {
+        let why = refusals::plain(10);
+        let s = state::refused(r, block, have, why);
+        return ended(s, 0);
+    }
+    told(
+        Word::Complete(total),
+        0,
+        state::in_phase(r, Phase::Complete(total)),
+    )
+}
+
 // Whether the signature that was asked about is good.
 pub fn answer(
     r: Reader,
@@ -105,7 +121,10 @@ pub fn answer(
     let phase = r.phase;
     let Phase::HeadAsked(n) = phase else {
         let Phase::BlockAsked { size, next } = phase else {
-            return unchanged(r, 1);
+            let Phase::EndAsked { have, total } = phase else {
+                return unchanged(r, 1);
+            };
+            return answer_end(r, block, have, total, good);
         };
         return answer_block(r, block, size, next, good);
     };

@@ -73,7 +73,9 @@ pub fn is_reading(p: Phase) -> bool
         Phase::NextLine { have: _, size: _ } => true,
         Phase::BlockAsked { size: _, next: _ } => false,
         Phase::Trailer { have: _, total: _ } => true,
+        Phase::EndAsked { have: _, total: _ } => false,
         Phase::Closed(_) => false,
+        Phase::Complete(_) => false,
         Phase::Refused(_) => false,
     }
 }

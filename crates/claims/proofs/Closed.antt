@@ -2,8 +2,8 @@
 use mathlib.Core.Path.{_≡_, sym, _∙_}
 use mathlib.Core.Bool.{true}
 use mathlib.Core.List.{List, [], append-nil}
-use Prim.Native.Nat.{ℕ, suc}
-use lib.ListN.{length, replicate}
+use Prim.Native.Nat.{ℕ}
+use lib.ListN.{replicate}
 use Rattle.ring.specs.Keys.{termsOf}
 use Rattle.ring.specs.declared.KeyRing.{KeyRing}
 use Rattle.sections.specs.Reading.{last}
@@ -16,6 +16,7 @@ use Rattle.stream.specs.Terms.{Terms}
 use Rattle.agreement.specs.Plain.{toldLog, plainTrace}
 use Rattle.agreement.specs.Run.{Invocation, plainCalls}
 use Rattle.agreement.proofs.Streams.{answers-told, bytes-told, outs-run, shown-events}
+use Rattle.exactness.specs.Shows.{yesesOf}
 use Rattle.closing.proofs.Runs.{run-closes}
 use Rattle.claims.specs.Closed.{ClosesExactly}
 use Rattle.claims.specs.Runs.{words, taken, answers}
@@ -26,23 +27,23 @@ use Rattle.claims.proofs.Untold.{stands-told, stands-untold, last-from}
 -- ---- the run
 
 module _ (keys : KeyRing) (uri h b q : List ℕ) (ks : List Invocation) where
-  abbrev terms : Terms
+  abbrev pub terms : Terms
   terms = termsOf keys uri
 
-  abbrev calls : List Call
+  abbrev pub calls : List Call
   calls = plainCalls keys h b q ks
 
-  abbrev machine : List (Out Question Release LastWord)
+  abbrev pub machine : List (Out Question Release LastWord)
   machine = runCalls (rules terms) head calls
 
-  events-same : events (words keys uri h b q ks) ≡ toldLog (events machine)
+  pub events-same : events (words keys uri h b q ks) ≡ toldLog (events machine)
   events-same = rw (demand-3 keys uri h b q ks .each-call) (shown-events terms calls)
 
-  taken-same : taken keys uri h b q ks ≡ bytesTaken calls machine
+  pub taken-same : taken keys uri h b q ks ≡ bytesTaken calls machine
   unfolding plainTrace
   taken-same = rw (demand-3 keys uri h b q ks .each-call, outs-run terms calls) (bytes-told calls machine)
 
-  answers-same : answers keys uri h b q ks ≡ answersHeard calls machine
+  pub answers-same : answers keys uri h b q ks ≡ answersHeard calls machine
   unfolding plainTrace
   answers-same = rw (demand-3 keys uri h b q ks .each-call, outs-run terms calls) (answers-told calls machine)
 
@@ -55,6 +56,6 @@ module _ (keys : KeyRing) (uri h b q : List ℕ) (ks : List Invocation) where
             (λ s. x .0 (stands-untold at (last (closed total)) (events machine) (λ e f. last-from e (closed total) f) s), λ t. stands-told at (last (closed total)) (events machine) (x .1 t));
         whole-body = λ at total t.
             honest-comes-out keys uri h b q ks (t .show) [] (t .honest) (t .stream)
-            (t .yeses ∙ sym (append-nil (replicate (suc (length (t .show .chunks))) true)))
+            (t .yeses ∙ sym (append-nil (replicate (yesesOf (t .show)) true)))
             .whole-body;
       }

@@ -10,7 +10,7 @@ use Rattle.ring.specs.declared.KeyRing.{KeyRing}
 use Rattle.sections.specs.Reading.{Event, question, message, last, Log}
 use Rattle.sections.specs.Calls.{isOfCall, Reply, more, event, misused}
 use Rattle.sections.specs.Resuming.{entry, placed}
-use Rattle.stream.specs.Events.{Question, Release, headAccepted, block, LastWord, closed, refused}
+use Rattle.stream.specs.Events.{Question, Release, headAccepted, block, LastWord, closed, complete, refused}
 use Rattle.state.specs.Configuration.{Configuration, configuration, freshReader}
 use Rattle.state.specs.declared.word.Word as Code
 use Rattle.state.specs.declared.word.Word.the-variants as W
@@ -29,6 +29,7 @@ eventTold (question q) = nothing
 eventTold (message (S.headAccepted status value)) = nothing
 eventTold (message (S.block o n b)) = counts 1 n 0 0
 eventTold (last (closed total)) = counts 0 0 1 0
+eventTold (last (complete total)) = counts 0 0 1 0
 eventTold (last (refused n at)) = refusalCounts n
 
 abbrev wordTold : Reply Question Told LastWord → Counts
@@ -51,6 +52,7 @@ word-seen (W.Question n key) signature d = question-counts (leb n (length (d .qu
 word-seen (W.Head status) signature d = refl
 word-seen (W.Block o n) signature d = refl
 word-seen (W.Closed total) signature d = refl
+word-seen (W.Complete total) signature d = refl
 word-seen (W.Refused why) signature d = refusal-counts (why .number) (why .at) (isOfCall (why .number)) refl
 
 -- ---- of a run
@@ -83,6 +85,7 @@ told-counts (x ∷ log) = rw (one (x .1), told-counts log)
     one (message (headAccepted status fields)) = refl
     one (message (block o b)) = refl
     one (last (closed total)) = refl
+    one (last (complete total)) = refl
     one (last (refused n at)) = refl
 
 run-counted : (keys : KeyRing) (uri h b q : List ℕ) (ks : List Invocation) → wordsCount (wordsOfRun keys uri h b q ks) ≡ countsOf (eventsRead keys uri h b q ks)

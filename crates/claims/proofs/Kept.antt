@@ -19,6 +19,8 @@ use Rattle.kept.proofs.Limits.{same-under, none-lost}
 use Rattle.kept.proofs.OtherShow.{refused-where-not}
 use Rattle.kept.proofs.SameEvents.{same-events}
 use Rattle.kept.proofs.SameShow.{same-where-asked}
+use Rattle.kept.proofs.Unchecked.{same-unclosed, none-lost-unchecked}
+use Rattle.kept.proofs.Unclaimed.{same-unclaimed}
 use Rattle.claims.specs.Kept.{KeptFromBefore, OlderBuffersRefused}
 use Rattle.claims.specs.Runs.{words, taken, answers, ended}
 use Rattle.claims.proofs.Asking.{begins-told}
@@ -51,6 +53,9 @@ module _ (keys : KeyRing) (uri h b q : List ℕ) (ks : List Invocation) where
         refused-where-not = λ n. shown _ (refused-where-not (termsOf keys uri) stream given told n);
         same-under-paper = λ three six. shown _ (same-under paperLimits (omega arith) (omega arith) (omega arith) (termsOf keys uri) stream given told three six);
         none-lost = begun _ (none-lost paperLimits (omega arith) (omega arith) (omega arith) (termsOf keys uri) stream given told);
+        same-unclosed = λ never. shown _ (same-unclosed (termsOf keys uri) stream given told never);
+        same-unclaimed = λ w t rest e g z k c. shown _ (rw (← e) (same-unclaimed (termsOf keys uri) w t rest g z k c given told));
+        none-lost-unchecked = begun _ (none-lost-unchecked (termsOf keys uri) stream given told);
       }
 
 pub older-buffers-refused : (keys : KeyRing) (uri : List ℕ) (d : Configuration) (r : Request) → OlderBuffersRefused keys uri d r

@@ -18,6 +18,7 @@ pub mod CallNumbers
 pub mod Refused
 pub mod Numbers
 pub mod Closed
+pub mod Complete
 pub mod Left
 pub mod AskedFor
 pub mod Kept

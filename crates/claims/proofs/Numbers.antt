@@ -1,4 +1,4 @@
--- EVERY REFUSAL of a run has a number of paper 01's table, or request #105's 16: 1 or 2 where a call is refused, another where the stream is;
+-- EVERY REFUSAL of a run has a number of paper 01's table, or request #101's 13 to 15, or request #105's 16: 1 or 2 where a call is refused, another where the stream is;
 -- and only 3 and 6 tell where the text went wrong. Assumes nothing.
 use mathlib.Core.Path.{_≡_, refl, sym, _∙_}
 use mathlib.Core.Bool.{Bool, true, false, true≢false}
@@ -12,18 +12,19 @@ use Rattle.sections.specs.Reading.{question, message, last}
 use Rattle.sections.specs.Calls.{misused}
 use Rattle.sections.specs.Resuming.{events}
 use Rattle.stream.specs.Blocks.{isChunkLine, lineRules}
-use Rattle.stream.specs.Events.{closed, refused}
+use Rattle.stream.specs.Ends.{endRules}
+use Rattle.stream.specs.Events.{closed, complete, refused}
 use Rattle.stream.specs.GoodText.{isGoodHead, isGoodTrailer}
-use Rattle.stream.specs.Head.{endsHead, headOf, textRules, callerRules}
+use Rattle.stream.specs.Head.{Head, endsHead, headOf, textRules, callerRules}
 use Rattle.stream.specs.Limits.{headLimit, lineLimit}
-use Rattle.stream.specs.Lines.{crlf, endsWith}
+use Rattle.stream.specs.Lines.{crlf, endsWith, Field}
 use Rattle.stream.specs.Rule.{firstBroken}
 use Rattle.stream.specs.Terms.{Terms}
 use Rattle.stream.specs.Trailer.{endsTrailer}
 use Rattle.stream.proofs.RulesHold.{broken-numbered}
 use Rattle.agreement.specs.Run.{Invocation, plainCalls}
-use Rattle.exactness.specs.Refusals.{Whole, ended as has-end, endless, Refuses, head-refused, first-line-refused, next-line-refused, data-end-refused, trailer-refused}
-use Rattle.exactness.specs.Telling.{StreamEvent, Decides, head-asked, head-told, block-asked, block-told, body-closed, rule-broken, Expected, on-time, denied, broken-off, Stands}
+use Rattle.exactness.specs.Refusals.{Whole, ended as has-end, endless, Refuses, head-refused, first-line-refused, next-line-refused, data-end-refused, trailer-refused, end-refused}
+use Rattle.exactness.specs.Telling.{StreamEvent, Decides, head-asked, head-told, block-asked, block-told, body-closed, end-asked, completed, rule-broken, Expected, on-time, denied, broken-off, Stands}
 use Rattle.exactness.specs.WentWrong.{WentWrong, bad-text, other-cause, no-place}
 use Rattle.claims.specs.Numbers.{isOfStream, OfStreams, NumbersOfTheTable}
 use Rattle.claims.specs.Runs.{words, taken, answers, ended}
@@ -36,6 +37,10 @@ use Rattle.claims.proofs.Refused.{refused-exactly}
 line-in : (N : ℕ) (due full : Bool) (sofar : ℕ) (l : List ℕ) (k : ℕ) → firstBroken (lineRules N due full sofar l) ≡ suc k → isOfStream (suc k) ≡ true
 unfolding lineRules
 line-in N due full sofar l k e = broken-numbered isOfStream (lineRules N due full sofar l) k refl e
+
+end-in : (h : Head) (fs : List Field) (total : ℕ) (hash : List ℕ) (k : ℕ) → firstBroken (endRules h fs total hash) ≡ suc k → isOfStream (suc k) ≡ true
+unfolding endRules
+end-in h fs total hash k e = broken-numbered isOfStream (endRules h fs total hash) k refl e
 
 module _ (terms : Terms) where
   head-in : (l : List ℕ) (k : ℕ) → firstBroken (textRules l (headOf l) ++ callerRules terms (headOf l)) ≡ suc k → isOfStream (suc k) ≡ true
@@ -56,6 +61,10 @@ module _ (terms : Terms) where
   line-most : (l : List ℕ) → Whole (endsWith crlf) lineLimit l → length l ≤ headLimit
   line-most l w = whole-most (endsWith crlf) lineLimit l (omega arith) w
 
+  -- a refusal that tells no place
+  plain-in : (n : ℕ) → isOfStream n ≡ true → OfStreams n 0
+  plain-in n b = record { number = b; none = λ x. refl; most = omega arith }
+
   refuses-in : (front : List ℕ) (yeses n at : ℕ) → Refuses terms front yeses n at → OfStreams n at
   refuses-in front yeses n at (head-refused {h} {n = k} w e x) = wrong-in endsHead isGoodHead h (suc k) at (whole-most endsHead headLimit h (omega arith) w) (head-in h k e) x
   refuses-in front yeses n at (first-line-refused {l = l} {n = k} g w e x) = wrong-in (endsWith crlf) isChunkLine l (suc k) at (line-most l w) (line-in _ false true 0 l k e) x
@@ -64,15 +73,13 @@ module _ (terms : Terms) where
       record { number = refl; none = λ x. absurd (true≢false x); most = omega (arith, e, v .within) }
   refuses-in front yeses n at (trailer-refused {t = t} g z w o x) =
       wrong-in endsTrailer isGoodTrailer t 6 at (whole-most endsTrailer headLimit t (omega arith) w) refl x
-
-  -- a refusal that is no section's
-  plain-in : (n : ℕ) → isOfStream n ≡ true → OfStreams n 0
-  plain-in n b = record { number = b; none = λ x. refl; most = omega arith }
+  refuses-in front yeses n at (end-refused {n = k} g z t c e) = plain-in (suc k) (end-in _ _ _ _ k e)
 
   abbrev EventIn : StreamEvent → Type 0
   EventIn (question q) = Unit {0}
   EventIn (message e) = Unit {0}
   EventIn (last (closed total)) = Unit {0}
+  EventIn (last (complete total)) = Unit {0}
   EventIn (last (refused n at)) = OfStreams n at
 
   decides-in : (front : List ℕ) (yeses : ℕ) (e : StreamEvent) → Decides terms front yeses e → EventIn e
@@ -80,7 +87,9 @@ module _ (terms : Terms) where
   decides-in front yeses e (head-told g) = tt
   decides-in front yeses e (block-asked g) = tt
   decides-in front yeses e (block-told g) = tt
-  decides-in front yeses e (body-closed g z k) = tt
+  decides-in front yeses e (body-closed g z k c) = tt
+  decides-in front yeses e (end-asked g z k c) = tt
+  decides-in front yeses e (completed g z k c) = tt
   decides-in front yeses e (rule-broken {n = n} {place = at} r) = refuses-in front yeses n at r
 
   expected-in : (S : List ℕ) (answers′ : List Bool) (told : Bool) (place : ℕ) (e : StreamEvent) → Expected terms S answers′ told place e → EventIn e

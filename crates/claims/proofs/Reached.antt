@@ -2,9 +2,9 @@
 use mathlib.Core.Path.{_≡_, sym, ap, _∙_}
 use mathlib.Core.Bool.{Bool, true}
 use mathlib.Core.List.{List, [], _++_, append-nil}
-use Prim.Native.Nat.{ℕ, suc}
+use Prim.Native.Nat.{ℕ}
 use lib.Dec.{leb}
-use lib.ListN.{length, replicate}
+use lib.ListN.{replicate}
 use Rattle.ring.specs.Keys.{termsOf}
 use Rattle.ring.specs.declared.KeyRing.{KeyRing}
 use Rattle.sections.specs.Calls.{Request, feed, answer, end}
@@ -15,7 +15,7 @@ use Rattle.stream.specs.Stream.{head, rules, plainReading}
 use Rattle.agreement.specs.Loans.{haveRoom, loanFits}
 use Rattle.agreement.specs.Plain.{toldLog}
 use Rattle.agreement.proofs.Streams.{shown-events}
-use Rattle.exactness.specs.Shows.{WholeShow, streamOf, Honest}
+use Rattle.exactness.specs.Shows.{WholeShow, streamOf, Honest, yesesOf}
 use Rattle.reaching.specs.Driver.{callsOver}
 use Rattle.reaching.proofs.SideBySide.{alike-resumes, alike-took, alike-answers, alike-stands}
 use Rattle.reaching.proofs.Finishing as Finishing
@@ -52,15 +52,15 @@ module _ (keys : KeyRing) (uri h b q : List ℕ) (room : haveRoom h b q ≡ true
       }
 
   reached : (s : WholeShow) (lengths : List ℕ) (others : List Bool) → Honest (termsOf keys uri) s
-      → Reached keys uri h b q (ordinaryCalls keys uri h b q lengths (replicate (suc (length (s .chunks))) true ++ others) (streamOf s)) s
+      → Reached keys uri h b q (ordinaryCalls keys uri h b q lengths (replicate (yesesOf s) true ++ others) (streamOf s)) s
   reached s lengths others g =
-      let given = replicate (suc (length (s .chunks))) true ++ others in
+      let given = replicate (yesesOf s) true ++ others in
       let ks = ordinaryCalls keys uri h b q lengths given (streamOf s) in
       let m = Reaching.honest-reached (termsOf keys uri) s lengths others g in
       let p = plain-calls keys uri h b q one-fits lengths given (streamOf s) in
       let a = words-alike keys uri h b q one-fits lengths given (streamOf s) in
       let t : taken keys uri h b q ks ≡ streamOf s = rw p (alike-took _ a ∙ m .took) in
-      let y : answers keys uri h b q ks ≡ replicate (suc (length (s .chunks))) true = rw p (alike-answers _ a ∙ m .yeses) in
+      let y : answers keys uri h b q ks ≡ replicate (yesesOf s) true = rw p (alike-answers _ a ∙ m .yeses) in
       record {
         resumes = rw p (alike-resumes (streamOf s) _ a (m .resumes));
         took = t;

@@ -118,3 +118,20 @@ pub last-from : (e : StreamEvent) (l : LastWord) → toldEvent e ≡ last l → 
 last-from (question q) l x = absurd (true≢false (sym (ap isLast x)))
 last-from (message e) l x = absurd (true≢false (sym (ap isLast x)))
 last-from (last m) l x = ap last (ap (lastOr l) x)
+
+-- ---- a question
+
+abbrev isQuestion : ToldEvent → Bool
+isQuestion (question q) = true
+isQuestion (message e) = false
+isQuestion (last l) = false
+
+abbrev questionOr : Question → ToldEvent → Question
+questionOr q (question r) = r
+questionOr q (message e) = q
+questionOr q (last l) = q
+
+pub question-from : (e : StreamEvent) (q : Question) → toldEvent e ≡ question q → e ≡ question q
+question-from (question r) q x = ap question (ap (questionOr q) x)
+question-from (message e) q x = absurd (true≢false (sym (ap isQuestion x)))
+question-from (last l) q x = absurd (true≢false (sym (ap isQuestion x)))

@@ -1,6 +1,7 @@
 -- THAT THE CLAIMS SPEAK OF SOMETHING: what they assume is met, here by an example of each. (Every honest show meets what is assumed of runs,
--- by Reached; document 000's example is one, crate examples, `example-honest`. Its readings by the older rules are as Kept assumes, crate kept,
--- `example-never`, `example-uri` and `example-under-paper`; another URI is refused, `example-refused`.) Assumes nothing.
+-- by Reached; document 000's example is one, crate examples, `example-honest`, and with its trailer, by which it claims its end, `claimed-honest`.
+-- Its readings by the older rules are as Kept assumes, crate kept, `example-never`, `example-uri`, `example-under-paper` and
+-- `honest-unclaimed`; another URI is refused, `example-refused`.) Assumes nothing.
 use mathlib.Core.Path.{_≡_}
 use mathlib.Core.Bool.{Bool, true}
 use mathlib.Core.List.{List}

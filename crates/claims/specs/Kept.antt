@@ -1,5 +1,6 @@
 -- KEPT FROM BEFORE: what a request leaves as it was, and what it puts in the place of the rest, said of any list of calls. Assumes nothing.
-use mathlib.Core.List.{List}
+use mathlib.Core.Bool.{false}
+use mathlib.Core.List.{List, _++_}
 use mathlib.Core.Path.{_≡_}
 use Prim.Native.Nat.{ℕ, _-_}
 use lib.ListN.{length, take}
@@ -14,10 +15,13 @@ use Rattle.calls.specs.Response.{unchanged}
 use Rattle.agreement.specs.Plain.{toldLog}
 use Rattle.agreement.specs.Run.{Invocation, called}
 use Rattle.exactness.specs.AskedFor.{uriOf}
-use Rattle.kept.specs.Kept.{NeverRefused, NeverRefusedAt, asAnotherShow}
+use Rattle.exactness.specs.Beginning.{Beginning, written, headIn, announces}
+use Rattle.exactness.specs.Good.{Good, GoodTrailer, claims}
+use Rattle.kept.specs.Kept.{NeverRefused, NeverRefusedAt, asAnotherShow, NeverClosed}
 use Rattle.kept.specs.Older.{olderReading}
 use Rattle.kept.specs.OtherLimits.{paperLimits, readingUnder}
 use Rattle.kept.specs.Unasked.{unaskedReading}
+use Rattle.kept.specs.Unchecked.{uncheckedReading}
 use Rattle.claims.specs.Runs.{words, taken, answers, ended}
 
 module _ (keys : KeyRing) (uri h b q : List ℕ) (ks : List Invocation) where
@@ -34,6 +38,10 @@ module _ (keys : KeyRing) (uri h b q : List ℕ) (ks : List Invocation) where
   abbrev pub readUnderPaper : Log Question Release LastWord
   readUnderPaper = readingUnder paperLimits (termsOf keys uri) (taken keys uri h b q ks) (answers keys uri h b q ks) (ended keys uri h b q ks)
 
+  -- and before request #101: a good trailer closes the show, and what head and trailer say of its end is not read
+  abbrev pub readUnchecked : Log Question Release LastWord
+  readUnchecked = uncheckedReading (termsOf keys uri) (taken keys uri h b q ks) (answers keys uri h b q ks) (ended keys uri h b q ks)
+
   pub record KeptFromBefore : Type 0 where
     -- #102: where the first of these readings knows no refusal 3, the events are its events, each at its place and with what it hands out
     pub same-events : NeverRefused 3 readBefore → events (words keys uri h b q ks) ≡ toldLog readBefore
@@ -46,6 +54,13 @@ module _ (keys : KeyRing) (uri h b q : List ℕ) (ks : List Invocation) where
     pub same-under-paper : NeverRefused 3 readUnderPaper → NeverRefusedAt 6 (paperLimits .bytes) readUnderPaper → events (words keys uri h b q ks) ≡ toldLog readUnderPaper
     -- and of any stream all its events but the last are the first events now: where it refused, more may be read
     pub none-lost : Begins (toldLog (take (length readUnderPaper - 1) readUnderPaper)) (events (words keys uri h b q ks))
+    -- #101: where the reading without the check of the end did not close, nothing changes
+    pub same-unclosed : NeverClosed readUnchecked → events (words keys uri h b q ks) ≡ toldLog readUnchecked
+    -- nor where a good beginning and a good trailer have none of the three fields in head and trailer: "*closed* as today"
+    pub same-unclaimed : (w : Beginning) (t rest : List ℕ) → written w ++ (t ++ rest) ≡ taken keys uri h b q ks
+        → Good (termsOf keys uri) w → announces w ≡ 0 → GoodTrailer t → claims (headIn w) t ≡ false → events (words keys uri h b q ks) ≡ toldLog readUnchecked
+    -- and of any stream all its events but the last are the first events now: nothing that was handed out is lost
+    pub none-lost-unchecked : Begins (toldLog (take (length readUnchecked - 1) readUnchecked)) (events (words keys uri h b q ks))
 
 -- #108: a head or a question buffer as long as paper 01 asked, which was enough before, is refused with 2 now
 pub record OlderBuffersRefused (keys : KeyRing) (uri : List ℕ) (d : Configuration) (r : Request) : Type 0 where

@@ -13,6 +13,7 @@ pub mod SignedValues
 pub mod Handed
 pub mod Reached
 pub mod Closed
+pub mod Complete
 pub mod Left
 pub mod Kept
 pub mod Examples

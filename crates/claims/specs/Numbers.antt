@@ -1,10 +1,10 @@
--- The numbers of a run's refusals, as paper 01's table has them ("When the reader says no") and request #105 adds to it, and which of them
--- tell a place (request #106). Assumes nothing.
-use mathlib.Core.Bool.{Bool, true, false, _&&_, _||_}
+-- The numbers of a run's refusals, as paper 01's table has them ("When the reader says no") and requests #101 and #105 add to it, and which of
+-- them tell a place (request #106). Assumes nothing.
+use mathlib.Core.Bool.{Bool, true, false, _&&_}
 use mathlib.Core.List.{List}
 use mathlib.Core.Path.{_≡_}
 use Prim.Native.Nat.{ℕ, _≤_}
-use lib.Dec.{leb, eqb}
+use lib.Dec.{leb}
 use Rattle.ring.specs.declared.KeyRing.{KeyRing}
 use Rattle.sections.specs.Reading.{last}
 use Rattle.sections.specs.Calls.{misused}
@@ -16,9 +16,9 @@ use Rattle.agreement.specs.Run.{Invocation}
 use Rattle.exactness.specs.Telling.{Stands}
 use Rattle.claims.specs.Runs.{words}
 
--- a stream is refused with 3 to 12, as paper 01's table has them, or with request #105's 16
+-- a stream is refused with 3 to 12, as paper 01's table has them, or with request #101's 13, 14 and 15, or with request #105's 16
 abbrev pub isOfStream : ℕ → Bool
-isOfStream n = (leb 3 n && leb n 12) || eqb n 16
+isOfStream n = leb 3 n && leb n 16
 
 -- a refusal that is an event, with its place in the text
 pub record OfStreams (n at : ℕ) : Type 0 where

@@ -4,7 +4,7 @@
 use mathlib.Core.Path.{_≡_}
 use mathlib.Core.Bool.{Bool, true}
 use mathlib.Core.List.{List, _++_}
-use Prim.Native.Nat.{ℕ, suc, _≤_}
+use Prim.Native.Nat.{ℕ, _≤_}
 use lib.Dec.{leb}
 use lib.ListN.{length, take, replicate}
 use Rattle.ring.specs.Keys.{termsOf}
@@ -16,7 +16,7 @@ use Rattle.stream.specs.Stream.{plainReading}
 use Rattle.agreement.specs.Loans.{haveRoom}
 use Rattle.agreement.specs.Plain.{toldLog}
 use Rattle.agreement.specs.Run.{Invocation, plainCalls}
-use Rattle.exactness.specs.Shows.{WholeShow, streamOf, Honest}
+use Rattle.exactness.specs.Shows.{WholeShow, streamOf, Honest, yesesOf}
 use Rattle.reaching.specs.Arrival.{questionsIn}
 use Rattle.claims.specs.Demand2.{ComesOutWhole}
 use Rattle.claims.specs.Ordinary.{ordinaryCalls}
@@ -29,8 +29,8 @@ module _ (keys : KeyRing) (uri h b q : List ℕ) (ks : List Invocation) where
     pub resumes : Resumes (streamOf s) (plainCalls keys h b q ks) (words keys uri h b q ks)
     -- all of the stream is taken
     pub took : taken keys uri h b q ks ≡ streamOf s
-    -- a yes is heard for the head and for each block, and no other answer
-    pub yeses : answers keys uri h b q ks ≡ replicate (suc (length (s .chunks))) true
+    -- a yes is heard for the head, for each block and for a claimed end, and no other answer
+    pub yeses : answers keys uri h b q ks ≡ replicate (yesesOf s) true
     -- and the show comes out whole
     pub whole : ComesOutWhole keys uri h b q ks s
 
@@ -51,7 +51,7 @@ module _ (keys : KeyRing) (uri h b q : List ℕ) where
   abbrev pub HonestReached : Type 0
   HonestReached =
       haveRoom h b q ≡ true → leb (keys .count) ringLimit ≡ true → (s : WholeShow) (lengths : List ℕ) (others : List Bool) → Honest (termsOf keys uri) s
-      → Reached keys uri h b q (ordinaryCalls keys uri h b q lengths (replicate (suc (length (s .chunks))) true ++ others) (streamOf s)) s
+      → Reached keys uri h b q (ordinaryCalls keys uri h b q lengths (replicate (yesesOf s) true ++ others) (streamOf s)) s
 
   -- every stream is read to its end, with any answers
   abbrev pub CallerFinishes : Type 0

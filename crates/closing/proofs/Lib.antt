@@ -3,3 +3,4 @@ pub mod Parts
 pub mod Rebuilding
 pub mod Closing
 pub mod Runs
+pub mod Complete

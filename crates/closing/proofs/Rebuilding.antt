@@ -1,4 +1,4 @@
--- The show that is read off a good beginning and a good trailer is honest, and these are its stream. Assumes nothing.
+-- The show that is read off a good beginning, a good trailer and a good end is honest, and these are its stream. Assumes nothing.
 use mathlib.Core.List.{List, [], _∷_, _++_}
 use mathlib.Core.Path.{_≡_, refl, sym, ap, _∙_}
 use Prim.Native.Nat.{ℕ, _≤_}
@@ -10,7 +10,7 @@ use Rattle.stream.specs.Limits.{bodyLimit}
 use Rattle.stream.specs.Numbers.{hexValue}
 use Rattle.stream.specs.Terms.{Terms}
 use Rattle.exactness.specs.Beginning.{Beginning, opening, onward, written, headIn, size, announces, body}
-use Rattle.exactness.specs.Good.{GoodHead, Good, opens, goes-on, GoodTrailer}
+use Rattle.exactness.specs.Good.{GoodHead, Good, opens, goes-on, GoodTrailer, GoodEnd}
 use Rattle.exactness.specs.Shows.{Chunk, WholeShow, bodyOf, Writes, HonestChunk, HonestChunks, Sized, beginningOf}
 use Rattle.exactness.proofs.HonestShows.{show-written, show-body}
 use Rattle.closing.specs.Closing.{IsShowOf}
@@ -78,9 +78,10 @@ sizes terms w (goes-on {w = v} {b = b} {l = l} g a n) =
       total = omega (arith, n .line .total);
     }
 
--- A GOOD BEGINNING that ends in a 0 line, and a good trailer, are the stream of an honest show.
-pub is-show : (terms : Terms) (w : Beginning) (t : List ℕ) → Good terms w → announces w ≡ 0 → GoodTrailer t → IsShowOf terms w t (showFrom w t)
-is-show terms w t g z k =
+-- A GOOD BEGINNING that ends in a 0 line, and a good trailer, are the stream of an honest show, where they claim a good end or none.
+pub is-show : (terms : Terms) (w : Beginning) (t : List ℕ) → Good terms w → announces w ≡ 0 → GoodTrailer t → GoodEnd (headIn w) (body w) t
+    → IsShowOf terms w t (showFrom w t)
+is-show terms w t g z k e =
     let s : WholeShow = showFrom w t in
     let p : beginningOf s ≡ w = parts-again terms w g in
     let b : bodyOf (s .chunks) ≡ body w = sym (show-body s) ∙ ap body p in
@@ -95,6 +96,7 @@ is-show terms w t g z k =
             total = rw b (m .total);
             zeros = rw z at (last-writes terms w g);
             trailer = k;
+            end = rw (b, ← h .1) e;
           };
       parts = p;
       stream = sym (show-written s) ∙ ap (λ (x : Beginning). written x ++ t) p;

@@ -1,2 +1,3 @@
 pub mod Rebuilt
 pub mod Closing
+pub mod Complete

@@ -39,7 +39,13 @@ module _ (terms : Terms) (S : List ℕ) (all : List Bool) (told : Bool) where
       → SaysDue terms front yeses (ask q y) → front ++ r ≡ S → replicate yeses true ++ answers ≡ all → GoesOn front next
       → Expected terms S all told (length front) (question q) × AllExpected (answered (rules terms) y (length front) answers next)
   unfolding rules
-  answered-expected front r yeses q (final l) answers next d s a on = absurd d
+  answered-expected front r yeses q (final l) [] next d s a on = (on-time (due-here front r yeses [] s a (d .0)), tt)
+  answered-expected front r yeses q (final l) (true ∷ answers) next d s a on =
+      let b : replicate (suc yeses) true ++ answers ≡ all = one-yes yeses answers ∙ a in
+      (on-time (due-here front r yeses (true ∷ answers) s a (d .0)), (on-time (due-here front r (suc yeses) answers s b (d .1)), tt))
+  answered-expected front r yeses q (final l) (false ∷ answers) next d s a on =
+      let k = due-here front r yeses (false ∷ answers) s a (d .0) in
+      (on-time k, (denied k answers refl, tt))
   answered-expected front r yeses q (granted e c) [] next d s a on = (on-time (due-here front r yeses [] s a (d .0)), tt)
   answered-expected front r yeses q (granted e c) (true ∷ answers) next d s a on =
       let b : replicate (suc yeses) true ++ answers ≡ all = one-yes yeses answers ∙ a in (

@@ -1,4 +1,4 @@
--- A head, a line or a trailer is good where the reading finds no fault in it, and only there. Assumes nothing.
+-- A head, a line, a trailer or a claimed end is good where the reading finds no fault in it, and only there. Assumes nothing.
 use mathlib.Core.Bool.{Bool, true, false, _||_}
 use mathlib.Core.List.{List, [], _∷_, _++_}
 use mathlib.Core.Logic.{_↔_}
@@ -8,8 +8,10 @@ use native.Mathlib.Omega.{arith}
 use borrow.Author.Tests.{leb-true, le-leb, eqb-true, eq-eqb, not-true}
 use lib.Dec.{eqb, leb}
 use lib.ListN.{length}
+use Rattle.sha256.specs.Sha256.{sha256}
 use Rattle.stream.specs.Blocks.{isWholeLine, isChunkLine, carriesSignature, chunkSize, lineRules, lineFault, sameBool}
-use Rattle.stream.specs.Head.{endsHead, isWholeHead, headOf, textRules, callerRules, headFault}
+use Rattle.stream.specs.Ends.{allFields, endRules, endFault}
+use Rattle.stream.specs.Head.{Head, endsHead, isWholeHead, headOf, textRules, callerRules, headFault}
 use Rattle.stream.specs.Limits.{headLimit, lineLimit, bodyLimit}
 use Rattle.stream.specs.Lines.{crlf, endsWith}
 use Rattle.stream.specs.Rule.{Rule, firstBroken}
@@ -17,9 +19,10 @@ use Rattle.stream.specs.Terms.{Terms}
 use Rattle.stream.specs.Trailer.{endsTrailer, isWholeTrailer, isTrailer}
 use Rattle.sections.proofs.Cuts.{NoneBelow}
 use Rattle.stream.specs.Bytes.{same}
+use Rattle.stream.proofs.EndString.{end-rules-hold}
 use Rattle.stream.proofs.RulesHold.{AllHold, rules-hold, head-rules-hold}
 use Rattle.stream.proofs.Truth.{left-holds, right-holds, or-true}
-use Rattle.exactness.specs.Good.{Kept, GoodHead, GoodLine, GoodFirstLine, GoodNextLine, GoodTrailer}
+use Rattle.exactness.specs.Good.{Kept, GoodHead, GoodLine, GoodFirstLine, GoodNextLine, GoodTrailer, claims, GoodClaim}
 use Rattle.exactness.proofs.Ends.{none-first, none-short}
 
 -- ---- lists of rules
@@ -146,3 +149,13 @@ faultless-trailer l h e =
       short = none-short endsTrailer headLimit l (omega arith) h;
       text = right-holds (endsTrailer l) _ e;
     }
+
+-- ---- the end
+
+pub claim-faultless : (h : Head) (body t : List ℕ) → GoodClaim h body t → endFault h (allFields h t) (length body) (sha256 body) ≡ 0
+unfolding endFault
+claim-faultless h body t g = kept-unbroken (endRules h (allFields h t) (length body) (sha256 body)) (g .kept)
+
+pub faultless-claim : (h : Head) (body t : List ℕ) → claims h t ≡ true → endFault h (allFields h t) (length body) (sha256 body) ≡ 0 → GoodClaim h body t
+faultless-claim h body t c e =
+    record { claimed = c; kept = held-kept (endRules h (allFields h t) (length body) (sha256 body)) (end-rules-hold h (allFields h t) (length body) (sha256 body) e) }

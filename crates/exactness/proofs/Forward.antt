@@ -1,27 +1,30 @@
 -- Over a good beginning, with a yes to each question, the plain reading gives just the events that are due, and goes on
 -- after it. Assumes nothing.
-use mathlib.Core.Bool.{Bool, true}
-use mathlib.Core.List.{List, _∷_, _++_, append-assoc}
+use mathlib.Core.Bool.{Bool, true, false}
+use mathlib.Core.List.{List, [], _∷_, _++_, append-assoc}
 use mathlib.Core.Path.{_≡_, refl, sym, ap, _∙_}
 use Prim.Native.Nat.{ℕ, zero, suc, _+_, _≤_}
 use native.Mathlib.Omega.{arith}
 use lib.ListN.{length, replicate, length-append}
-use Rattle.sections.specs.Reading.{question, message, Log, granted, answered, readingAt, reading}
+use Rattle.sha256.specs.Sha256.{sha256}
+use Rattle.sections.specs.Reading.{question, message, last, Log, granted, final, answered, judged, readingAt, reading}
 use Rattle.stream.specs.Blocks.{chunkSize}
-use Rattle.stream.specs.Events.{Question, Release, block, LastWord}
+use Rattle.stream.specs.Ends.{allFields}
+use Rattle.stream.specs.Events.{Question, Release, block, LastWord, closed, complete}
 use Rattle.stream.specs.Head.{headOf}
 use Rattle.stream.specs.Lines.{crlf}
-use Rattle.stream.specs.Stream.{Show, Past, after, Context, announced, showOf, bodyWith, blockQuestion, rules, plainReading}
+use Rattle.stream.specs.Stream.{Show, Past, after, Context, announced, Says, showOf, bodyWith, blockQuestion, endQuestion, judgeEnd, rules, plainReading}
 use Rattle.stream.specs.Terms.{Terms}
 use Rattle.exactness.specs.Beginning.{Beginning, onward, written, headIn, size, announces, blocks, body, hash, offset, questions}
-use Rattle.exactness.specs.Good.{Good, opens, goes-on, GoodTrailer}
-use Rattle.exactness.specs.Telling.{headAsks, headTells, blockAsks, logOf, wholeLog}
+use Rattle.exactness.specs.Good.{Good, opens, goes-on, GoodTrailer, claims, GoodClaim, GoodEnd, unclaimed, well-claimed}
+use Rattle.exactness.specs.Telling.{headAsks, headTells, blockAsks, endAsks, logOf, wholeLog, wholeYeses}
+use Rattle.exactness.proofs.Faults.{claim-faultless}
 use Rattle.exactness.proofs.Steps.{onRest, head-step, first-step, block-step, trailer-step}
 
 -- ---- where the reading stands after a beginning
 
 abbrev pub pastOf : Beginning → Past
-pastOf w = record { blocks = blocks w; hash = hash w }
+pastOf w = record { blocks = blocks w; hash = hash w; body = body w }
 
 abbrev pub contextOf : Terms → Beginning → Context
 contextOf terms w = announced (showOf (terms .ring) (headIn w)) (pastOf w) (length (body w)) (announces w)
@@ -101,10 +104,47 @@ module _ (terms : Terms) where
       (reading-good w (b ++ (crlf ++ (l ++ r))) answers told g
       ∙ ap (λ (x : Log Question Release LastWord). logOf (terms .ring) w ++ x) (onward-step w b l r answers told (goes-on g a n)))
 
-  -- Where a good beginning announces no block, and a good trailer follows, the reading closes.
-  pub reading-closed : (w : Beginning) (t r : List ℕ) (answers : List Bool) (told : Bool) → Good terms w → announces w ≡ 0 → GoodTrailer t
-      → plainReading terms (written w ++ t ++ r) (replicate (questions w) true ++ answers) told ≡ wholeLog (terms .ring) w t
-  reading-closed w t r answers told g z k =
+  -- ---- the end of the show
+
+  -- what is said of it
+  abbrev pub endSays : Beginning → List ℕ → Says
+  endSays w t = judgeEnd (showOf (terms .ring) (headIn w)) (length (body w)) (sha256 (body w)) (allFields (headIn w) t)
+
+  -- Where a good beginning announces no block, and a good trailer follows, the end is judged.
+  pub reading-ended : (w : Beginning) (t r : List ℕ) (answers : List Bool) (told : Bool) → Good terms w → announces w ≡ 0 → GoodTrailer t
+      → plainReading terms (written w ++ t ++ r) (replicate (questions w) true ++ answers) told
+      ≡ logOf (terms .ring) w
+      ++ judged (rules terms) (endSays w t) (length (written w ++ t)) answers (onRest terms (length (written w ++ t)) r told)
+  unfolding showOf
+  reading-ended w t r answers told g z k =
       rw (append-assoc (written w) t r, length-append (written w) t)
       (reading-good w (t ++ r) answers told g
-      ∙ ap (λ (x : Log Question Release LastWord). logOf (terms .ring) w ++ x) (rw z (trailer-step terms (length (body w)) (length (written w)) t r answers told k)))
+      ∙ ap (λ (x : Log Question Release LastWord). logOf (terms .ring) w ++ x)
+      (rw z (trailer-step terms (showOf (terms .ring) (headIn w)) (pastOf w) (length (body w)) (length (written w)) t r answers told k)))
+
+  -- where none is claimed the reading closes
+  pub reading-closed : (w : Beginning) (t r : List ℕ) (answers : List Bool) (told : Bool) → Good terms w → announces w ≡ 0 → GoodTrailer t
+      → claims (headIn w) t ≡ false
+      → plainReading terms (written w ++ t ++ r) (replicate (questions w) true ++ answers) told
+      ≡ logOf (terms .ring) w ++ (length (written w ++ t), last (closed (length (body w)))) ∷ []
+  unfolding judgeEnd
+  reading-closed w t r answers told g z k c = reading-ended w t r answers told g z k ∙ rw (judgeEnd, c)
+
+  -- where the claim is good, it gives the question about it, and a yes *complete*
+  pub reading-claimed : (w : Beginning) (t r : List ℕ) (answers : List Bool) (told : Bool) → Good terms w → announces w ≡ 0 → GoodTrailer t
+      → GoodClaim (headIn w) (body w) t
+      → plainReading terms (written w ++ t ++ r) (replicate (questions w) true ++ answers) told
+      ≡ logOf (terms .ring) w
+      ++ (length (written w ++ t), question (endAsks (terms .ring) (headIn w) t))
+      ∷ answered (rules terms) (final (complete (length (body w)))) (length (written w ++ t)) answers (onRest terms (length (written w ++ t)) r told)
+  unfolding judgeEnd showOf endQuestion endAsks
+  reading-claimed w t r answers told g z k c =
+      reading-ended w t r answers told g z k ∙ rw (judgeEnd, c .claimed, claim-faultless (headIn w) (body w) t c)
+
+  -- With all its yeses the reading gives just the events of the whole.
+  pub reading-whole : (w : Beginning) (t r : List ℕ) (answers : List Bool) (told : Bool) → Good terms w → announces w ≡ 0 → GoodTrailer t
+      → GoodEnd (headIn w) (body w) t
+      → plainReading terms (written w ++ t ++ r) (replicate (wholeYeses w t) true ++ answers) told ≡ wholeLog (terms .ring) w t
+  reading-whole w t r answers told g z k (unclaimed c) = rw c (reading-closed w t r answers told g z k c)
+  reading-whole w t r answers told g z k (well-claimed c) =
+      rw (c .claimed, one-yes (questions w) answers) (reading-claimed w t r (true ∷ answers) told g z k c)

@@ -9,8 +9,9 @@ use Rattle.stream.specs.Limits.{bodyLimit}
 use Rattle.stream.specs.Lines.{crlf}
 use Rattle.stream.specs.Terms.{Terms}
 use Rattle.exactness.specs.Beginning.{Beginning, opening, onward, written, headIn, size, announces, blocks, body}
-use Rattle.exactness.specs.Good.{GoodLine, GoodNextLine, Good, opens, goes-on}
-use Rattle.exactness.specs.Shows.{Chunk, WholeShow, bodyOf, chunkLine, signed, chunksWritten, streamOf, Writes, HonestChunks, Sized, Honest, nextDigits, continued, beginningOf}
+use Rattle.exactness.specs.Good.{GoodLine, GoodNextLine, Good, opens, goes-on, GoodEnd}
+use Rattle.exactness.specs.Shows.{Chunk, WholeShow, bodyOf, chunkLine, signed, chunksWritten, streamOf, Writes, HonestChunks, Sized, Honest, yesesOf, nextDigits, continued, beginningOf}
+use Rattle.exactness.specs.Telling.{wholeYeses}
 use Rattle.exactness.proofs.ChunkLines.{bare, signature, line-size, line-carries, line-good}
 
 -- ---- the bytes
@@ -64,6 +65,19 @@ continued-blocks w (c ∷ cs) zeros = continued-blocks (onward w (c .block) _) c
 pub show-blocks : (s : WholeShow) → blocks (beginningOf s) ≡ length (s .chunks)
 unfolding blocks
 show-blocks s = continued-blocks (opening (s .head) _) (s .chunks) (s .zeros) ∙ omega arith
+
+continued-head : (w : Beginning) (cs : List Chunk) (zeros : List ℕ) → headIn (continued w cs zeros) ≡ headIn w
+unfolding headIn continued
+continued-head w [] zeros = refl
+continued-head w (c ∷ cs) zeros = continued-head (onward w (c .block) _) cs zeros
+
+pub show-head : (s : WholeShow) → headIn (beginningOf s) ≡ headOf (s .head)
+unfolding headIn
+show-head s = continued-head (opening (s .head) _) (s .chunks) (s .zeros)
+
+-- its yeses
+pub show-yeses : (s : WholeShow) → wholeYeses (beginningOf s) (s .trailer) ≡ yesesOf s
+show-yeses s = rw (show-head s, show-blocks s)
 
 -- ---- the rules
 
@@ -121,3 +135,6 @@ show-good terms s h =
     line-good N 0 v bare (next-most N (s .chunks) (h .sized)) (omega (arith, joined-next (s .chunks), h .total)) in
     continued-good terms (opening (s .head) (chunkLine (nextDigits (s .chunks) (s .zeros)) [])) (s .chunks) (s .zeros)
     (opens (h .head) (record { line = l; unsigned = line-carries v bare })) (line-size v bare) (h .chunks) (h .sized) (h .zeros) (omega (arith, h .total))
+
+pub show-end : (terms : Terms) (s : WholeShow) → Honest terms s → GoodEnd (headIn (beginningOf s)) (body (beginningOf s)) (s .trailer)
+show-end terms s h = rw (show-head s, show-body s) (h .end)

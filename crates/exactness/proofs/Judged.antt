@@ -9,26 +9,29 @@ use borrow.Author.Tests.{leb-true, leb-false}
 use lib.Dec.{leb}
 use lib.ListN.{length, take}
 use lib.Seq.{length-take-le}
-use Rattle.sections.specs.Reading.{go, stop}
+use Rattle.octets.specs.Choice.{pick}
+use Rattle.sections.specs.Reading.{go, ask, stop, final}
+use Rattle.sha256.specs.Sha256.{sha256}
 use Rattle.sections.proofs.Cuts.{NoneBelow}
 use Rattle.stream.specs.Blocks.{isWholeLine}
 use Rattle.stream.specs.Bytes.{same}
-use Rattle.stream.specs.Events.{closed, refused}
+use Rattle.stream.specs.Ends.{allFields, endFault}
+use Rattle.stream.specs.Events.{closed, complete, refused, hasPlace, placeOf}
 use Rattle.stream.specs.Head.{endsHead, isWholeHead}
 use Rattle.stream.specs.Limits.{headLimit, lineLimit}
 use Rattle.stream.specs.Lines.{crlf, endsWith}
 use Rattle.stream.specs.Places.{dataEndPlace, trailerPlace}
-use Rattle.stream.specs.Stream.{Context, nextLine, isWhole, announced, showOf, judgeDataEnd, judgeTrailer, judge}
+use Rattle.stream.specs.Stream.{Context, nextLine, isWhole, Says, unlessBroken, announced, showOf, judgeDataEnd, endQuestion, judgeEnd, judgeTrailer, judge}
 use Rattle.stream.specs.Terms.{Terms}
 use Rattle.stream.specs.Trailer.{endsTrailer, isWholeTrailer, isTrailer}
 use Rattle.stream.proofs.Truth.{same-equal, same-self}
 use Rattle.exactness.specs.Beginning.{Beginning, onward, written, headIn, announces, body, questions}
-use Rattle.exactness.specs.Good.{Announced, Good}
-use Rattle.exactness.specs.Refusals.{Unended, data-end-refused, trailer-refused, Unfinished, in-head, in-first-line, in-block, in-data-end, in-next-line, in-trailer}
-use Rattle.exactness.specs.Telling.{body-closed, rule-broken}
-use Rattle.exactness.proofs.Faults.{faultless-trailer}
-use Rattle.exactness.proofs.Forward.{pastOf, contextOf}
-use Rattle.exactness.proofs.Reached.{Reached, at-head, at-first, at-line, at-end, at-next, SaysDue, head-due, first-due, next-due}
+use Rattle.exactness.specs.Good.{Announced, Good, GoodTrailer, claims}
+use Rattle.exactness.specs.Refusals.{Unended, data-end-refused, trailer-refused, end-refused, Unfinished, in-head, in-first-line, in-block, in-data-end, in-next-line, in-trailer}
+use Rattle.exactness.specs.Telling.{endAsks, body-closed, end-asked, completed, rule-broken}
+use Rattle.exactness.proofs.Faults.{faultless-trailer, faultless-claim}
+use Rattle.exactness.proofs.Forward.{pastOf, contextOf, endSays}
+use Rattle.exactness.proofs.Reached.{Reached, at-head, at-first, at-line, at-end, at-next, SaysDue, unless-due, head-due, first-due, next-due}
 use Rattle.exactness.proofs.WentWrong.{data-end-wrong, trailer-wrong}
 use Rattle.exactness.proofs.Wholes.{cut-whole, none-unended}
 
@@ -65,6 +68,14 @@ short-length n f p h = by (leb n (length f)) refl
         let m : length (take (length f) f) ≡ length f = length-take-le (length f) f (omega arith) in
         absurd (omega (arith, leb-false n (length (take (length f) f)) (h (length f) (omega arith) (omega arith))))
 
+-- no place is no place, whatever the number
+pub no-place-left : (n : ℕ) → placeOf n 0 ≡ 0
+no-place-left n = by (hasPlace n)
+  where
+    by : (t : Bool) → _≡_ {A = ℕ} (pick t 0 0) 0
+    by true = refl
+    by false = refl
+
 module _ (terms : Terms) where
   -- ---- a whole section
 
@@ -82,14 +93,34 @@ module _ (terms : Terms) where
       by true h = rw (same-equal f crlf h) (at-next g a)
       by false h = rule-broken (data-end-refused g a l (other h) (data-end-wrong f))
 
+  -- the end of the show, after a good trailer
+  claim-due : (w : Beginning) (t : List ℕ) → Good terms w → announces w ≡ 0 → GoodTrailer t
+      → SaysDue terms (written w ++ t) (questions w) (endSays terms w t)
+  unfolding judgeEnd showOf endQuestion endAsks endFault
+  claim-due w t g z k = by (claims (headIn w) t) refl
+    where
+      fault : ℕ
+      fault = endFault (headIn w) (allFields (headIn w) t) (length (body w)) (sha256 (body w))
+
+      asks : Says
+      asks = ask (endQuestion (showOf (terms .ring) (headIn w)) (allFields (headIn w) t)) (final (complete (length (body w))))
+
+      by : (x : Bool) → claims (headIn w) t ≡ x
+          → SaysDue terms (written w ++ t) (questions w) (elim x [ true ↦ unlessBroken fault 0 asks | false ↦ stop (closed (length (body w))) ])
+      by true c =
+          unless-due terms (written w ++ t) (questions w) fault 0 asks
+          (λ e. let good = faultless-claim (headIn w) (body w) t c e in (end-asked g z k good, completed g z k good))
+          (λ n e. rw (no-place-left (suc n)) (end-refused g z k c e))
+      by false c = body-closed g z k c
+
   trailer-due : (w : Beginning) (f : List ℕ) → Good terms w → announces w ≡ 0 → isWholeTrailer f ≡ true → NoneBelow isWholeTrailer f (length f)
-      → SaysDue terms (written w ++ f) (questions w) (judgeTrailer (length (body w)) f)
-  unfolding judgeTrailer isWholeTrailer endsTrailer endsWith same
+      → SaysDue terms (written w ++ f) (questions w) (judgeTrailer (showOf (terms .ring) (headIn w)) (pastOf w) (length (body w)) f)
+  unfolding judgeTrailer isWholeTrailer endsTrailer endsWith same showOf
   trailer-due w f g z t n = by (isTrailer f) refl
     where
       by : (x : Bool) → isTrailer f ≡ x
-          → SaysDue terms (written w ++ f) (questions w) (elim x [ true ↦ stop (closed (length (body w))) | false ↦ stop (refused 6 (trailerPlace f)) ])
-      by true h = body-closed g z (faultless-trailer f n h)
+          → SaysDue terms (written w ++ f) (questions w) (elim x [ true ↦ endSays terms w f | false ↦ stop (refused 6 (trailerPlace f)) ])
+      by true h = claim-due w f g z (faultless-trailer f n h)
       by false h = rule-broken (trailer-refused g z (cut-whole endsTrailer headLimit f refl (omega arith) t n) h (trailer-wrong f))
 
   -- after a line, by the size that it announces

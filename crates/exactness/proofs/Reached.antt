@@ -43,10 +43,10 @@ module _ (terms : Terms) where
   SaysDue front yeses (tell e c) = ⊥
   SaysDue front yeses (ask q (granted e c)) =
       Decides terms front yeses (question q) × Decides terms front (suc yeses) (message e) × Reached terms front (suc yeses) c
-  SaysDue front yeses (ask q (final l)) = ⊥
+  SaysDue front yeses (ask q (final l)) = Decides terms front yeses (question q) × Decides terms front (suc yeses) (last l)
   SaysDue front yeses (stop l) = Decides terms front yeses (last l)
 
-  unless-due : (front : List ℕ) (yeses n place : ℕ) (says : Says) → (n ≡ 0 → SaysDue front yeses says)
+  pub unless-due : (front : List ℕ) (yeses n place : ℕ) (says : Says) → (n ≡ 0 → SaysDue front yeses says)
       → ((k : ℕ) → n ≡ suc k → Refuses terms front yeses (suc k) (placeOf (suc k) place)) → SaysDue front yeses (unlessBroken n place says)
   unless-due front yeses zero place says h r = h refl
   unless-due front yeses (suc n) place says h r = rule-broken (r n refl)

@@ -2,30 +2,34 @@
 -- end was told. Assumes nothing.
 use mathlib.Core.Bool.{Bool, true, false}
 use mathlib.Core.List.{List, [], _∷_, _++_, append-assoc}
-use mathlib.Core.Path.{_≡_, refl, sym}
+use mathlib.Core.Path.{_≡_, refl, sym, _∙_}
 use Prim.Native.Nat.{ℕ, suc, _+_, _<_}
 use native.Mathlib.Omega.{arith}
 use borrow.Author.Tests.{le-leb, lt-leb}
 use lib.Dec.{eqb, leb}
 use lib.ListN.{length, take, replicate, length-append}
 use lib.Seq.{length-take-le}
+use Rattle.sha256.specs.Sha256.{sha256}
 use Rattle.sections.specs.Reading.{last, readingAt, reading}
 use Rattle.stream.specs.Blocks.{isWholeLine, lineFault}
 use Rattle.stream.specs.Bytes.{same}
+use Rattle.stream.specs.Ends.{allFields, endRules, endFault}
 use Rattle.stream.specs.Events.{refused, placeOf}
 use Rattle.stream.specs.Head.{endsHead, isWholeHead, headOf, headFault}
 use Rattle.stream.specs.Limits.{headLimit, lineLimit}
 use Rattle.stream.specs.Lines.{crlf, endsWith}
 use Rattle.stream.specs.Places.{headPlace, linePlace, dataEndPlace, trailerPlace}
-use Rattle.stream.specs.Stream.{Show, Past, head, firstLine, dataEnd, nextLine, trailer, isWhole, showOf, bodyWith, judgeHead, judgeFirstLine, judgeDataEnd, judgeNextLine, judgeTrailer, judge, rules, plainReading}
+use Rattle.stream.specs.Rule.{firstBroken}
+use Rattle.stream.specs.Stream.{Show, Past, head, firstLine, dataEnd, nextLine, trailer, isWhole, showOf, bodyWith, judgeHead, judgeFirstLine, judgeDataEnd, judgeNextLine, judgeEnd, judgeTrailer, judge, rules, plainReading}
 use Rattle.stream.specs.Terms.{Terms}
 use Rattle.stream.specs.Trailer.{endsTrailer, isWholeTrailer, isTrailer}
 use Rattle.stream.proofs.Truth.{same-equal}
-use Rattle.exactness.specs.Beginning.{onward, written, headIn, body}
-use Rattle.exactness.specs.Refusals.{Whole, Refuses, head-refused, first-line-refused, next-line-refused, data-end-refused, trailer-refused}
+use Rattle.exactness.specs.Beginning.{Beginning, onward, written, headIn, announces, body, questions}
+use Rattle.exactness.specs.Good.{Good, GoodTrailer, claims}
+use Rattle.exactness.specs.Refusals.{Whole, Refuses, head-refused, first-line-refused, next-line-refused, data-end-refused, trailer-refused, end-refused}
 use Rattle.exactness.specs.Telling.{StreamEvent, Stands, logOf}
-use Rattle.exactness.proofs.Forward.{pastOf, place-is}
-use Rattle.exactness.proofs.Judged.{onward-rest}
+use Rattle.exactness.proofs.Forward.{pastOf, place-is, reading-ended}
+use Rattle.exactness.proofs.Judged.{onward-rest, no-place-left}
 use Rattle.exactness.proofs.Reached.{body-with}
 use Rattle.exactness.proofs.Stops.{Telling, headLog, stop-step, head-then, line-then, block-then, end-then}
 use Rattle.exactness.proofs.WentWrong.{head-only, line-only, data-end-only, trailer-only}
@@ -77,12 +81,20 @@ module _ (terms : Terms) where
       unlike true e = absurd (o (same-equal f crlf e))
       unlike false e = refl
 
-  trailer-stop : (total at : ℕ) (t r : List ℕ) (answers : List Bool) (told : Bool) → Whole endsTrailer headLimit t → isTrailer t ≡ false
-      → readingAt (rules terms) (trailer total) at (t ++ r) answers told ≡ (at + length t, last (refused 6 (trailerPlace t))) ∷ []
+  trailer-stop : (s : Show) (p : Past) (total at : ℕ) (t r : List ℕ) (answers : List Bool) (told : Bool) → Whole endsTrailer headLimit t → isTrailer t ≡ false
+      → readingAt (rules terms) (trailer s p total) at (t ++ r) answers told ≡ (at + length t, last (refused 6 (trailerPlace t))) ∷ []
   unfolding isWhole isWholeTrailer judge judgeTrailer endsTrailer endsWith same
-  trailer-stop total at t r answers told k e =
-      stop-step terms (trailer total) at t r answers told 6 _ (whole-some endsTrailer headLimit t refl (omega arith) k)
+  trailer-stop s p total at t r answers told k e =
+      stop-step terms (trailer s p total) at t r answers told 6 _ (whole-some endsTrailer headLimit t refl (omega arith) k)
       (whole-true endsTrailer headLimit t k) (whole-none endsTrailer headLimit t k) (rw (e, judgeTrailer))
+
+  -- a claimed end that breaks a rule
+  reading-broken : (w : Beginning) (t r : List ℕ) (answers : List Bool) (told : Bool) (n : ℕ) → Good terms w → announces w ≡ 0 → GoodTrailer t
+      → claims (headIn w) t ≡ true → firstBroken (endRules (headIn w) (allFields (headIn w) t) (length (body w)) (sha256 (body w))) ≡ suc n
+      → plainReading terms (written w ++ t ++ r) (replicate (questions w) true ++ answers) told
+      ≡ logOf (terms .ring) w ++ (length (written w ++ t), last (refused (suc n) 0)) ∷ []
+  unfolding judgeEnd showOf endFault
+  reading-broken w t r answers told n g z k c e = reading-ended terms w t r answers told g z k ∙ rw (judgeEnd, c, e, no-place-left (suc n))
 
   -- ---- all of them
 
@@ -112,5 +124,7 @@ module _ (terms : Terms) where
   refuses-stands front rest yeses others told n place (trailer-refused {w = w} {t = t} g z k e x) =
       rw (append-assoc (written w) t rest, trailer-only t place x)
       (stands-last _ (logOf (terms .ring) w) (length (written w ++ t)) (length (written w) + length t)
-      (line-then terms w (t ++ rest) others told _ g (rw z (trailer-stop (length (body w)) (length (written w)) t rest others told k e)))
+      (line-then terms w (t ++ rest) others told _ g (rw z (trailer-stop (showOf (terms .ring) (headIn w)) (pastOf w) (length (body w)) (length (written w)) t rest others told k e)))
       (sym (length-append (written w) t)))
+  refuses-stands front rest yeses others told n place (end-refused {w = w} {t = t} {n = m} g z k c e) =
+      stands-last _ (logOf (terms .ring) w) (length (written w ++ t)) (length (written w ++ t)) (reading-broken w t rest others told m g z k c e) refl

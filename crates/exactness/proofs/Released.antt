@@ -11,7 +11,7 @@ use Rattle.stream.specs.Terms.{Terms}
 use Rattle.exactness.specs.Beginning.{Beginning, onward, written, blocks, offset, questions}
 use Rattle.exactness.specs.Good.{GoodHead, Good}
 use Rattle.exactness.specs.Releases.{AcceptsHead, ReleasesBlock}
-use Rattle.exactness.specs.Telling.{StreamEvent, headTells, Decides, head-asked, head-told, block-asked, block-told, body-closed, rule-broken, Due}
+use Rattle.exactness.specs.Telling.{StreamEvent, headTells, Decides, head-asked, head-told, block-asked, block-told, body-closed, end-asked, completed, rule-broken, Due}
 
 module _ (terms : Terms) where
   -- what a release that is decided after `front` and so many yeses comes from
@@ -29,7 +29,9 @@ module _ (terms : Terms) where
   origin front yeses e (head-told g) = (g, refl, refl)
   origin front yeses e (block-asked g) = tt
   origin front yeses e (block-told {w = w} {l = l} g) = (w, l, g, refl, refl, refl)
-  origin front yeses e (body-closed g z k) = tt
+  origin front yeses e (body-closed g z k c) = tt
+  origin front yeses e (end-asked g z k c) = tt
+  origin front yeses e (completed g z k c) = tt
   origin front yeses e (rule-broken r) = tt
 
   pub due-block : (S : List ℕ) (answers : List Bool) (at o : ℕ) (b : List ℕ) → Due terms S answers at (message (block o b)) → ReleasesBlock terms S answers at o b

@@ -1,23 +1,26 @@
 -- The events that are computed from a show are those of the beginning that it is written as. Assumes nothing.
+use mathlib.Core.Bool.{Bool, true, false}
 use mathlib.Core.List.{List, [], _∷_, _++_, append-assoc}
-use mathlib.Core.Path.{_≡_, refl, _∙_}
+use mathlib.Core.Path.{_≡_, refl, ap, _∙_}
 use Prim.Native.Nat.{ℕ}
 use lib.ListN.{length, length-append}
-use Rattle.sections.specs.Reading.{last, Log}
-use Rattle.stream.specs.Events.{Question, Release, block, LastWord, closed}
-use Rattle.stream.specs.Head.{headOf}
+use Rattle.sections.specs.Reading.{Log}
+use Rattle.stream.specs.Events.{Question, Release, block, LastWord}
+use Rattle.stream.specs.Blocks.{offsetOf}
+use Rattle.stream.specs.Head.{Head, headOf, blockSize}
 use Rattle.stream.specs.Terms.{Terms}
-use Rattle.exactness.specs.Beginning.{Beginning, opening, onward, written, headIn, blocks, hash}
-use Rattle.exactness.specs.ShowEvents.{chunkAsks, chunkEvents, showEvents}
-use Rattle.exactness.specs.Shows.{Chunk, WholeShow, bodyOf, chunkLine, signed, Writes, HonestChunks, Honest, nextDigits, continued, beginningOf}
-use Rattle.exactness.specs.Telling.{blockAsks, logOf, wholeLog}
+use Rattle.exactness.specs.Beginning.{Beginning, opening, onward, written, headIn, blocks, hash, offset}
+use Rattle.exactness.specs.Good.{claims}
+use Rattle.exactness.specs.ShowEvents.{chunkAsks, endEvents, chunkEvents, showEvents}
+use Rattle.exactness.specs.Shows.{Chunk, WholeShow, chunkLine, signed, Writes, HonestChunks, Honest, claimsEnd, nextDigits, continued, beginningOf}
+use Rattle.exactness.specs.Telling.{blockAsks, logOf, endLog, wholeLog}
 use Rattle.exactness.proofs.ChunkLines.{line-signature}
 use Rattle.exactness.proofs.Forward.{place-is}
-use Rattle.exactness.proofs.HonestShows.{next-writes, show-body}
+use Rattle.exactness.proofs.HonestShows.{next-writes, show-body, show-head}
 
 module _ (terms : Terms) (s : WholeShow) where
-  abbrev closing : Beginning → Log Question Release LastWord
-  closing w = (length (written w ++ s .trailer), last (closed (length (bodyOf (s .chunks))))) ∷ []
+  abbrev ending : Beginning → Log Question Release LastWord
+  ending w = endEvents (terms .ring) s (length (written w ++ s .trailer)) (claimsEnd s)
 
   -- the line after a chunk
   abbrev lineAfter : Chunk → List Chunk → List ℕ
@@ -29,17 +32,29 @@ module _ (terms : Terms) (s : WholeShow) where
   asks-same w c cs e h z =
       rw (line-signature (c .signature) (next-writes cs (s .zeros) (h .1) z) (h .0 .bytes) (h .0 .sixty-four), e)
 
+  offset-same : (w : Beginning) → headIn w ≡ headOf (s .head) → offset w ≡ offsetOf (blocks w) (blockSize (headOf (s .head)))
+  offset-same w e = ap (λ (h : Head). offsetOf (blocks w) (blockSize h)) e
+
   continued-log : (w : Beginning) (cs : List Chunk) → headIn w ≡ headOf (s .head) → HonestChunks cs → Writes (s .zeros) 0
-      → logOf (terms .ring) (continued w cs (s .zeros)) ++ closing (continued w cs (s .zeros))
+      → logOf (terms .ring) (continued w cs (s .zeros)) ++ ending (continued w cs (s .zeros))
       ≡ logOf (terms .ring) w ++ chunkEvents (terms .ring) s (blocks w) (hash w) (length (written w)) cs
   unfolding continued chunkEvents headIn blocks hash logOf
   continued-log w [] e h z = rw (length-append (written w) (s .trailer))
   continued-log w (c ∷ cs) e h z =
-      rw (place-is w (c .block) (lineAfter c cs), ← asks-same w c cs e h z, ← e)
+      rw (place-is w (c .block) (lineAfter c cs), ← asks-same w c cs e h z, ← offset-same w e)
       (continued-log (onward w (c .block) (lineAfter c cs)) cs e (h .1) z ∙ append-assoc (logOf (terms .ring) w) _ _)
+
+  -- the events of the end, told of the beginning and of the show
+  same-end : (x : Bool) → endLog (terms .ring) (beginningOf s) (s .trailer) x ≡ endEvents (terms .ring) s (length (written (beginningOf s) ++ s .trailer)) x
+  same-end true = rw (show-head s, show-body s)
+  same-end false = rw (show-body s)
+
+  pub show-ending : endLog (terms .ring) (beginningOf s) (s .trailer) (claims (headIn (beginningOf s)) (s .trailer))
+      ≡ endEvents (terms .ring) s (length (written (beginningOf s) ++ s .trailer)) (claimsEnd s)
+  show-ending = ap (λ (h : Head). endLog (terms .ring) (beginningOf s) (s .trailer) (claims h (s .trailer))) (show-head s) ∙ same-end (claimsEnd s)
 
   pub show-log : Honest terms s → wholeLog (terms .ring) (beginningOf s) (s .trailer) ≡ showEvents (terms .ring) s
   unfolding showEvents headIn blocks hash logOf written
   show-log h =
       let l : List ℕ = chunkLine (nextDigits (s .chunks) (s .zeros)) [] in
-      rw (show-body s, ← length-append (s .head) l) (continued-log (opening (s .head) l) (s .chunks) refl (h .chunks) (h .zeros))
+      rw (show-ending, ← length-append (s .head) l) (continued-log (opening (s .head) l) (s .chunks) refl (h .chunks) (h .zeros))

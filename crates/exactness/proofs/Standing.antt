@@ -9,9 +9,9 @@ use Rattle.stream.specs.Events.{refused}
 use Rattle.stream.specs.Head.{headOf}
 use Rattle.stream.specs.Stream.{rules, plainReading}
 use Rattle.stream.specs.Terms.{Terms}
-use Rattle.exactness.specs.Beginning.{onward, written, questions}
-use Rattle.exactness.specs.Telling.{StreamEvent, headAsks, blockAsks, Decides, head-asked, head-told, block-asked, block-told, body-closed, rule-broken, Due, Expected, on-time, denied, broken-off, Stands, logOf}
-use Rattle.exactness.proofs.Forward.{one-yes, reading-asked, reading-closed}
+use Rattle.exactness.specs.Beginning.{onward, written, headIn, questions}
+use Rattle.exactness.specs.Telling.{StreamEvent, headAsks, blockAsks, endAsks, Decides, head-asked, head-told, block-asked, block-told, body-closed, end-asked, completed, rule-broken, Due, Expected, on-time, denied, broken-off, Stands, logOf}
+use Rattle.exactness.proofs.Forward.{one-yes, reading-asked, reading-closed, reading-claimed}
 use Rattle.exactness.proofs.Refused.{refuses-stands}
 use Rattle.exactness.proofs.Steps.{head-step}
 use Rattle.exactness.proofs.Unfinished.{unfinished-stands}
@@ -37,8 +37,17 @@ module _ (terms : Terms) where
         after = _;
         joined = append-assoc (logOf (terms .ring) w) _ _ ∙ sym (reading-asked terms w b l rest (true ∷ others) told g);
       }
-  decides-stands front rest yeses others told e (body-closed {w = w} {t = t} g z k) =
-      record { before = logOf (terms .ring) w; after = []; joined = sym (reading-closed terms w t rest others told g z k) }
+  decides-stands front rest yeses others told e (body-closed {w = w} {t = t} g z k c) =
+      record { before = logOf (terms .ring) w; after = []; joined = sym (reading-closed terms w t rest others told g z k c) }
+  decides-stands front rest yeses others told e (end-asked {w = w} {t = t} g z k c) =
+      record { before = logOf (terms .ring) w; after = _; joined = sym (reading-claimed terms w t rest others told g z k c) }
+  decides-stands front rest yeses others told e (completed {w = w} {t = t} g z k c) =
+      rw (one-yes (questions w) others)
+      record {
+        before = logOf (terms .ring) w ++ (length (written w ++ t), question (endAsks (terms .ring) (headIn w) t)) ∷ [];
+        after = [];
+        joined = append-assoc (logOf (terms .ring) w) _ _ ∙ sym (reading-claimed terms w t rest (true ∷ others) told g z k c);
+      }
   decides-stands front rest yeses others told e (rule-broken r) = refuses-stands terms front rest yeses others told _ _ r
 
   due-stands : (S : List ℕ) (answers : List Bool) (told : Bool) (at : ℕ) (e : StreamEvent) → Due terms S answers at e
@@ -69,7 +78,14 @@ module _ (terms : Terms) where
         joined = append-assoc (logOf (terms .ring) w) _ _ ∙ sym (reading-asked terms w b l rest (false ∷ others) told g);
       }
   no-stands front yeses e (block-told g) = tt
-  no-stands front yeses e (body-closed g z k) = tt
+  no-stands front yeses e (body-closed g z k c) = tt
+  no-stands front yeses e (end-asked {w = w} {t = t} g z k c) = λ rest others told.
+      record {
+        before = logOf (terms .ring) w ++ (length (written w ++ t), question (endAsks (terms .ring) (headIn w) t)) ∷ [];
+        after = [];
+        joined = append-assoc (logOf (terms .ring) w) _ _ ∙ sym (reading-claimed terms w t rest (false ∷ others) told g z k c);
+      }
+  no-stands front yeses e (completed g z k c) = tt
   no-stands front yeses e (rule-broken r) = tt
 
   pub expected-stands : (S : List ℕ) (answers : List Bool) (told : Bool) (at : ℕ) (e : StreamEvent) → Expected terms S answers told at e

@@ -1,7 +1,7 @@
 -- What the plain reading makes of a good head, of a good first line, of a block with a good line after it, and of a good
 -- trailer, where they stand next. Assumes nothing.
 use mathlib.Core.Bool.{Bool, true, false}
-use mathlib.Core.List.{List, [], _∷_, _++_}
+use mathlib.Core.List.{List, _∷_, _++_}
 use mathlib.Core.Path.{_≡_, refl, ap, _∙_}
 use Prim.Native.Nat.{ℕ, _+_, _≤_, _<_}
 use native.Mathlib.Nat.{zero-add}
@@ -10,16 +10,18 @@ use borrow.Author.Tests.{le-leb, lt-leb}
 use lib.Dec.{leb}
 use lib.ListN.{length, take}
 use lib.Seq.{length-take-le}
-use Rattle.sections.specs.Reading.{question, last, Log, granted, Cut, answered, judged, oneSection, readingAt}
+use Rattle.sha256.specs.Sha256.{sha256}
+use Rattle.sections.specs.Reading.{question, Log, granted, Cut, answered, judged, oneSection, readingAt}
 use Rattle.sections.proofs.Cuts.{NoneBelow, cut-at}
 use Rattle.sections.proofs.Scans.{section-read}
 use Rattle.stream.specs.Blocks.{isWholeLine, chunkSize}
 use Rattle.stream.specs.Bytes.{same}
-use Rattle.stream.specs.Events.{Question, Release, block, LastWord, closed}
+use Rattle.stream.specs.Ends.{allFields}
+use Rattle.stream.specs.Events.{Question, Release, block, LastWord}
 use Rattle.stream.specs.Head.{endsHead, isWholeHead, headOf}
 use Rattle.stream.specs.Limits.{headLimit, lineLimit}
 use Rattle.stream.specs.Lines.{crlf, endsWith}
-use Rattle.stream.specs.Stream.{Show, Past, nothing, Context, head, firstLine, blockData, dataEnd, nextLine, trailer, isWhole, announced, after, showOf, headQuestion, acceptHead, judgeHead, judgeFirstLine, judgeDataEnd, blockOffset, bodyWith, blockQuestion, acceptBlock, judgeNextLine, judgeTrailer, judge, rules}
+use Rattle.stream.specs.Stream.{Show, Past, nothing, Context, head, firstLine, blockData, dataEnd, nextLine, trailer, isWhole, announced, after, showOf, headQuestion, acceptHead, judgeHead, judgeFirstLine, judgeDataEnd, blockOffset, bodyWith, blockQuestion, acceptBlock, judgeNextLine, judgeEnd, judgeTrailer, judge, rules}
 use Rattle.stream.specs.Terms.{Terms}
 use Rattle.stream.specs.Trailer.{endsTrailer, isWholeTrailer}
 use Rattle.exactness.specs.Good.{GoodHead, GoodFirstLine, GoodNextLine, GoodTrailer}
@@ -116,12 +118,13 @@ module _ (terms : Terms) where
       ∙ end-step s p (at + length b) b (l ++ r) answers told
       ∙ next-step s p (at + length b + 2) b l r answers told g
 
-  -- a good trailer closes the body
-  pub trailer-step : (total at : ℕ) (t r : List ℕ) (answers : List Bool) (told : Bool) → GoodTrailer t
-      → readingAt (rules terms) (trailer total) at (t ++ r) answers told ≡ (at + length t, last (closed total)) ∷ []
+  -- after a good trailer the end of the show is judged
+  pub trailer-step : (s : Show) (p : Past) (total at : ℕ) (t r : List ℕ) (answers : List Bool) (told : Bool) → GoodTrailer t
+      → readingAt (rules terms) (trailer s p total) at (t ++ r) answers told
+      ≡ judged (rules terms) (judgeEnd s total (sha256 (p .body)) (allFields (s .head) t)) (at + length t) answers (onRest (at + length t) r told)
   unfolding isWhole isWholeTrailer judge judgeTrailer endsTrailer endsWith same
-  trailer-step total at t r answers told g =
-      one-section (trailer total) at t r answers told (some-byte endsTrailer t refl (g .ends .there))
+  trailer-step s p total at t r answers told g =
+      one-section (trailer s p total) at t r answers told (some-byte endsTrailer t refl (g .ends .there))
       (first-whole endsTrailer headLimit t (g .ends))
       (first-none endsTrailer headLimit t (g .ends) (g .short))
       ∙ rw (trailer-faultless t g, judgeTrailer)

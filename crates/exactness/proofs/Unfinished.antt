@@ -75,5 +75,5 @@ module _ (terms : Terms) where
   unfinished-stands S yeses others (in-trailer {w = w} {t = t} g z u) =
       stands-last terms _ (logOf (terms .ring) w) (length (written w ++ t)) (length (written w) + length t)
       (line-then terms w t others true _ g
-      (rw z (out-step terms (trailer (length (body w))) (length (written w)) t others (unended-none endsTrailer headLimit t u))))
+      (rw z (out-step terms (trailer (showOf (terms .ring) (headIn w)) (pastOf w) (length (body w))) (length (written w)) t others (unended-none endsTrailer headLimit t u))))
       (sym (length-append (written w) t))

@@ -1,6 +1,7 @@
 -- A stream's beginning, taken apart: the head and the first chunk line, then by turns a block, its CR LF and the line after it
 -- (paper 01, "The plain reading": "Head, then chunk line, data and data end by turns"). Here is only what such parts amount
 -- to; which of them keep the rules is said in Good. Assumes nothing.
+use mathlib.Core.Bool.{Bool, true, false}
 use mathlib.Core.List.{List, [], _++_}
 use Prim.Native.Nat.{ℕ, suc, _*_}
 use Rattle.stream.specs.Blocks.{chunkSize, chained}
@@ -54,3 +55,8 @@ offset w = blocks w * size w
 -- one question about the head, and one about each block
 abbrev pub questions : Beginning → ℕ
 questions w = suc (blocks w)
+
+-- and one more about the end, where one is claimed
+abbrev pub withEnd : Bool → ℕ → ℕ
+withEnd true n = suc n
+withEnd false n = n

@@ -1,13 +1,15 @@
--- Which beginnings of a stream keep the rules, and which trailers do (paper 01, "The head" and "Blocks"). The rules of single
--- texts are those of the definitions of the stream; how the parts follow each other is said here anew, from the paper: neither
--- the plain reading nor its verdicts are used. Assumes nothing.
+-- Which beginnings of a stream keep the rules, and which trailers do (paper 01, "The head" and "Blocks"), and which ends of a show (request
+-- #101). The rules of single texts are those of the definitions of the stream; how the parts follow each other is said here anew, from the
+-- paper: neither the plain reading nor its verdicts are used. Assumes nothing.
 use mathlib.Core.Bool.{Bool, true, false}
 use mathlib.Core.List.{List, [], _∷_, _++_}
 use mathlib.Core.Path.{_≡_}
 use Prim.Native.Nat.{ℕ, _+_, _≤_, _<_}
 use lib.ListN.{length, take}
+use Rattle.sha256.specs.Sha256.{sha256}
 use Rattle.stream.specs.Blocks.{isChunkLine, carriesSignature, chunkSize}
-use Rattle.stream.specs.Head.{endsHead, headOf, blockSize, textRules, callerRules}
+use Rattle.stream.specs.Ends.{allFields, isClaimed, endRules}
+use Rattle.stream.specs.Head.{Head, endsHead, headOf, blockSize, textRules, callerRules}
 use Rattle.stream.specs.Limits.{headLimit, lineLimit, bodyLimit}
 use Rattle.stream.specs.Lines.{crlf, endsWith, textLines, areFieldLines}
 use Rattle.stream.specs.Rule.{Rule}
@@ -71,3 +73,19 @@ pub record GoodTrailer (t : List ℕ) : Type 0 where
   pub ends : EndsFirst endsTrailer t
   pub short : length t ≤ headLimit
   pub text : areFieldLines (textLines t) ≡ true
+
+-- ---- the end of the show
+
+-- Any of "`Digest` .., `X-Ouinet-Data-Size` .. and `X-Ouinet-Sig1`" is given, "each from the head or the trailer": the show claims an end.
+abbrev pub claims : Head → List ℕ → Bool
+claims h t = isClaimed (allFields h t)
+
+-- A good claim gives the three, once each, written and listed as the request says, with the size and the SHA-256 of the body, and Sig0's key.
+pub record GoodClaim (h : Head) (body t : List ℕ) : Type 0 where
+  pub claimed : claims h t ≡ true
+  pub kept : Kept (endRules h (allFields h t) (length body) (sha256 body))
+
+-- "none of the three", or a good claim
+pub data GoodEnd (h : Head) (body t : List ℕ) : Type 0 where
+  unclaimed : claims h t ≡ false → GoodEnd h body t
+  well-claimed : GoodClaim h body t → GoodEnd h body t

@@ -1,13 +1,15 @@
 -- Which beginnings of a stream break a rule, and with which number they are refused; and which streams are unfinished
--- (paper 01, "When the reader says no"). Written from the paper, over good beginnings alone. Assumes nothing.
+-- (paper 01, "When the reader says no"; request #101 for the end). Written from the paper, over good beginnings alone. Assumes nothing.
 use mathlib.Core.Bool.{Bool, true, false}
 use mathlib.Core.List.{List, _++_}
 use mathlib.Core.Path.{_≡_}
 use Prim.Native.Nat.{ℕ, suc, _≤_, _<_}
 use lib.Dec.{eqb}
 use lib.ListN.{length, take}
+use Rattle.sha256.specs.Sha256.{sha256}
 use Rattle.octets.specs.Viable.{LongestViable}
 use Rattle.stream.specs.Blocks.{isChunkLine, lineRules}
+use Rattle.stream.specs.Ends.{allFields, endRules}
 use Rattle.stream.specs.GoodText.{isGoodHead, isGoodDataEnd, isGoodTrailer}
 use Rattle.stream.specs.Head.{endsHead, headOf, blockSize, textRules, callerRules}
 use Rattle.stream.specs.Limits.{headLimit, lineLimit}
@@ -15,8 +17,8 @@ use Rattle.stream.specs.Lines.{crlf, endsWith}
 use Rattle.stream.specs.Rule.{firstBroken}
 use Rattle.stream.specs.Terms.{Terms}
 use Rattle.stream.specs.Trailer.{endsTrailer, isTrailer}
-use Rattle.exactness.specs.Beginning.{Beginning, onward, written, size, announces, body, questions}
-use Rattle.exactness.specs.Good.{EndsFirst, GoodHead, Announced, Good}
+use Rattle.exactness.specs.Beginning.{Beginning, onward, written, headIn, size, announces, body, questions}
+use Rattle.exactness.specs.Good.{EndsFirst, GoodHead, Announced, Good, GoodTrailer, claims}
 use Rattle.exactness.specs.WentWrong.{WentWrong}
 
 -- "judged at its CR LF, or refused with 6 when 128 bytes have come without it": l ends within the limit, and not before; or it
@@ -51,6 +53,10 @@ pub data Refuses (terms : Terms) : List ℕ → ℕ → ℕ → ℕ → Type 0 w
   -- "trailer text wrong or too long"
   trailer-refused : {w : Beginning} {t : List ℕ} {place : ℕ} → Good terms w → announces w ≡ 0 → Whole endsTrailer headLimit t → isTrailer t ≡ false
       → WentWrong endsTrailer isGoodTrailer t 6 place → Refuses terms (written w ++ t) (questions w) 6 place
+  -- 13, 14, 15 and 12, "At the trailer's end, in this order", where an end is claimed; they have no place
+  end-refused : {w : Beginning} {t : List ℕ} {n : ℕ} → Good terms w → announces w ≡ 0 → GoodTrailer t → claims (headIn w) t ≡ true
+      → firstBroken (endRules (headIn w) (allFields (headIn w) t) (length (body w)) (sha256 (body w))) ≡ suc n
+      → Refuses terms (written w ++ t) (questions w) (suc n) 0
 
 -- `Unfinished terms S yeses`: the stream S breaks off, after so many yeses, within one of its parts or between two of them.
 pub data Unfinished (terms : Terms) : List ℕ → ℕ → Type 0 where

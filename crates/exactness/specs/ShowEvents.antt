@@ -1,15 +1,16 @@
 -- What is to be told of an honest show, computed from the show alone: every event with its place and all that it carries
--- (paper 01, "The plain reading" and "Blocks"). Assumes nothing.
+-- (paper 01, "The plain reading" and "Blocks"; request #101 for the end). Assumes nothing.
+use mathlib.Core.Bool.{Bool, true, false}
 use mathlib.Core.List.{List, [], _∷_}
 use Prim.Native.Nat.{ℕ, suc, _+_}
 use lib.ListN.{length}
 use Rattle.sections.specs.Reading.{question, message, last, Log}
 use Rattle.stream.specs.Blocks.{chained, blockMessage, offsetOf}
-use Rattle.stream.specs.Events.{Question, Release, block, LastWord, closed}
+use Rattle.stream.specs.Events.{Question, Release, block, LastWord, closed, complete}
 use Rattle.stream.specs.Head.{Head, headOf, injectionId, blockSize, trustedBy}
 use Rattle.stream.specs.Ring.{Ring, numberOf}
-use Rattle.exactness.specs.Shows.{Chunk, WholeShow, bodyOf, chunkLine, signed, nextDigits}
-use Rattle.exactness.specs.Telling.{headAsks, headTells}
+use Rattle.exactness.specs.Shows.{Chunk, WholeShow, bodyOf, chunkLine, signed, claimsEnd, nextDigits}
+use Rattle.exactness.specs.Telling.{headAsks, headTells, endAsks}
 
 -- The question about block i, where `before` is hash(i-1), or nothing for the first: its message, the signature that was
 -- written down for it, and the record of the head's key.
@@ -25,10 +26,21 @@ chunkAsks ring h i before c =
 abbrev pub lineEnd : ℕ → Chunk → List Chunk → List ℕ → ℕ
 lineEnd at c cs zeros = at + length (c .block) + 2 + length (chunkLine (nextDigits cs zeros) (signed (c .signature)))
 
+-- the last word, with the total: "none of the three, *closed*", else *complete*
+abbrev pub goodWord : Bool → ℕ → LastWord
+goodWord true total = complete total
+goodWord false total = closed total
+
+-- The events at the end of the trailer, the place `at`: where an end is claimed its question and *complete*, else *closed*, with the total.
+abbrev pub endEvents : Ring → WholeShow → ℕ → Bool → Log Question Release LastWord
+endEvents ring s at true =
+    (at, question (endAsks ring (headOf (s .head)) (s .trailer))) ∷ (at, last (complete (length (bodyOf (s .chunks))))) ∷ []
+endEvents ring s at false = (at, last (closed (length (bodyOf (s .chunks))))) ∷ []
+
 -- The events from block i on, where the line before it ended at the place `at`: for each block its question and then the block,
--- both at the end of the line after it; at the end of the trailer *closed*, with the total.
+-- both at the end of the line after it; then those of the end.
 unfoldable pub chunkEvents : Ring → WholeShow → ℕ → List ℕ → ℕ → List Chunk → Log Question Release LastWord
-chunkEvents ring s i before at [] = (at + length (s .trailer), last (closed (length (bodyOf (s .chunks))))) ∷ []
+chunkEvents ring s i before at [] = endEvents ring s (at + length (s .trailer)) (claimsEnd s)
 chunkEvents ring s i before at (c ∷ cs) =
     (lineEnd at c cs (s .zeros), question (chunkAsks ring (headOf (s .head)) i before c))
     ∷ (lineEnd at c cs (s .zeros), message (block (offsetOf i (blockSize (headOf (s .head)))) (c .block)))

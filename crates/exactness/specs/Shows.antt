@@ -1,9 +1,10 @@
 -- A show as its sender writes it down (paper 01, "Blocks"): the head, the body in blocks, and the trailer, with sizes in hex of
--- either case and leading zeros or not, and any 64 bytes for a signature. Assumes nothing.
-use mathlib.Core.Bool.{true}
+-- either case and leading zeros or not, and any 64 bytes for a signature; with an end that head and trailer claim, or none (request #101).
+-- Assumes nothing.
+use mathlib.Core.Bool.{Bool, true}
 use mathlib.Core.List.{List, [], _∷_, _++_}
 use mathlib.Core.Path.{_≡_}
-use Prim.Native.Nat.{ℕ, _≤_}
+use Prim.Native.Nat.{ℕ, suc, _≤_}
 use lib.ListN.{length}
 use lib.Pow.{areBytes}
 use Rattle.base64.specs.Base64.{textOf}
@@ -13,8 +14,8 @@ use Rattle.stream.specs.Limits.{sizeDigits, bodyLimit}
 use Rattle.stream.specs.Lines.{crlf}
 use Rattle.stream.specs.Numbers.{isHexNumber, hexValue}
 use Rattle.stream.specs.Terms.{Terms}
-use Rattle.exactness.specs.Beginning.{Beginning, opening, onward}
-use Rattle.exactness.specs.Good.{GoodHead, GoodTrailer}
+use Rattle.exactness.specs.Beginning.{Beginning, opening, onward, withEnd}
+use Rattle.exactness.specs.Good.{GoodHead, GoodTrailer, claims, GoodEnd}
 
 -- ---- a show
 
@@ -84,6 +85,17 @@ pub record Honest (terms : Terms) (s : WholeShow) : Type 0 where
   pub total : length (bodyOf (s .chunks)) ≤ bodyLimit
   pub zeros : Writes (s .zeros) 0
   pub trailer : GoodTrailer (s .trailer)
+  pub end : GoodEnd (headOf (s .head)) (bodyOf (s .chunks)) (s .trailer)
+
+-- ---- the yeses that it needs
+
+-- any of the three fields of the end is in its head or its trailer
+abbrev pub claimsEnd : WholeShow → Bool
+claimsEnd s = claims (headOf (s .head)) (s .trailer)
+
+-- one for the head, one for each block, and one more where an end is claimed
+abbrev pub yesesOf : WholeShow → ℕ
+yesesOf s = withEnd (claimsEnd s) (suc (length (s .chunks)))
 
 -- ---- its parts, as a beginning of the stream
 

@@ -1,5 +1,5 @@
 -- What is to be told of a stream, and where: which event the last byte of a good beginning decides, and the whole list of
--- events of an honest stream (paper 01, "The plain reading"). Written over good beginnings alone. Assumes nothing.
+-- events of an honest stream (paper 01, "The plain reading"; request #101 for the end). Written over good beginnings alone. Assumes nothing.
 use mathlib.Core.Bool.{Bool, true, false}
 use mathlib.Core.List.{List, [], _∷_, _++_}
 use mathlib.Core.Path.{_≡_}
@@ -7,13 +7,14 @@ use Prim.Native.Nat.{ℕ, suc}
 use lib.ListN.{length, replicate}
 use Rattle.sections.specs.Reading.{Event, question, message, last, Log}
 use Rattle.stream.specs.Blocks.{lineSignature, blockMessage}
-use Rattle.stream.specs.Events.{Question, Release, headAccepted, block, LastWord, closed, refused}
+use Rattle.stream.specs.Ends.{allFields, endsIn, endSignature, endString}
+use Rattle.stream.specs.Events.{Question, Release, headAccepted, block, LastWord, closed, complete, refused}
 use Rattle.stream.specs.Head.{Head, headOf, statusDigits, injectionId, headSignature, signedOf, signingString, trustedBy}
 use Rattle.stream.specs.Numbers.{decimalValue}
 use Rattle.stream.specs.Ring.{Ring, numberOf}
 use Rattle.stream.specs.Terms.{Terms}
-use Rattle.exactness.specs.Beginning.{Beginning, opening, onward, written, headIn, announces, body, hash, offset, questions}
-use Rattle.exactness.specs.Good.{GoodHead, Good, GoodTrailer}
+use Rattle.exactness.specs.Beginning.{Beginning, opening, onward, written, headIn, announces, body, hash, offset, questions, withEnd}
+use Rattle.exactness.specs.Good.{GoodHead, Good, GoodTrailer, claims, GoodClaim}
 use Rattle.exactness.specs.Refusals.{Refuses, Unfinished}
 
 abbrev pub StreamEvent : Type 0
@@ -38,6 +39,15 @@ blockAsks ring w b l =
       keyNumber = numberOf (trustedBy ring (headIn w));
     }
 
+-- about the end, by the fields of the head and of the trailer t: "a question over Sig1", with the head's record
+unfoldable pub endAsks : Ring → Head → List ℕ → Question
+endAsks ring h t =
+    record {
+      message = endString h (endsIn (allFields h t));
+      signature = endSignature (endsIn (allFields h t));
+      keyNumber = numberOf (trustedBy ring h);
+    }
+
 -- ---- where each event is decided
 
 -- `Decides terms front yeses e`: the last byte of `front` decides the event e, where `yeses` questions were answered with yes.
@@ -49,8 +59,14 @@ pub data Decides (terms : Terms) : List ℕ → ℕ → StreamEvent → Type 0 w
       → Decides terms (written (onward w b l)) (questions w) (question (blockAsks (terms .ring) w b l))
   block-told : {w : Beginning} {b l : List ℕ} → Good terms (onward w b l)
       → Decides terms (written (onward w b l)) (suc (questions w)) (message (block (offset w) b))
-  body-closed : {w : Beginning} {t : List ℕ} → Good terms w → announces w ≡ 0 → GoodTrailer t
+  -- "none of the three, *closed* as today"
+  body-closed : {w : Beginning} {t : List ℕ} → Good terms w → announces w ≡ 0 → GoodTrailer t → claims (headIn w) t ≡ false
       → Decides terms (written w ++ t) (questions w) (last (closed (length (body w))))
+  end-asked : {w : Beginning} {t : List ℕ} → Good terms w → announces w ≡ 0 → GoodTrailer t → GoodClaim (headIn w) (body w) t
+      → Decides terms (written w ++ t) (questions w) (question (endAsks (terms .ring) (headIn w) t))
+  -- "A yes gives a new last word, *complete*, with the total"
+  completed : {w : Beginning} {t : List ℕ} → Good terms w → announces w ≡ 0 → GoodTrailer t → GoodClaim (headIn w) (body w) t
+      → Decides terms (written w ++ t) (suc (questions w)) (last (complete (length (body w))))
   rule-broken : {front : List ℕ} {yeses n place : ℕ} → Refuses terms front yeses n place → Decides terms front yeses (last (refused n place))
 
 -- The event e is due at the place `at` of the stream S: a beginning of S of that length decides it, and the answers begin
@@ -91,9 +107,19 @@ logOf ring (onward w b l) =
     ∷ (length (written (onward w b l)), message (block (offset w) b))
     ∷ []
 
--- and at the trailer's last byte *closed*, with the length of the body
+-- at the trailer's last byte, where an end is claimed, the question about it and *complete*, else *closed*: each with the length of the body
+abbrev pub endLog : Ring → Beginning → List ℕ → Bool → Log Question Release LastWord
+endLog ring w t true =
+    (length (written w ++ t), question (endAsks ring (headIn w) t)) ∷ (length (written w ++ t), last (complete (length (body w)))) ∷ []
+endLog ring w t false = (length (written w ++ t), last (closed (length (body w)))) ∷ []
+
+-- all of them, up to the last word
 abbrev pub wholeLog : Ring → Beginning → List ℕ → Log Question Release LastWord
-wholeLog ring w t = logOf ring w ++ (length (written w ++ t), last (closed (length (body w)))) ∷ []
+wholeLog ring w t = logOf ring w ++ endLog ring w t (claims (headIn w) t)
+
+-- the yeses that they need
+abbrev pub wholeYeses : Beginning → List ℕ → ℕ
+wholeYeses w t = withEnd (claims (headIn w) t) (questions w)
 
 -- the bytes of all blocks that a list of events releases, joined
 unfoldable pub released : Log Question Release LastWord → List ℕ

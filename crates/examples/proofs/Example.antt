@@ -1,7 +1,7 @@
 -- Document 000's example, with size 5 and the body `Hello world!`, is an honest show: so it comes out whole. Assumes nothing.
 use mathlib.Core.Bool.{Bool, true, false}
 use mathlib.Core.List.{List, [], _∷_, _++_, append-nil}
-use mathlib.Core.Path.{_≡_, refl, sym, ap, _∙_}
+use mathlib.Core.Path.{_≡_, refl, _∙_}
 use Prim.Native.Nat.{ℕ, _≤_}
 use native.Mathlib.Omega.{arith}
 use lib.ListN.{length, replicate}
@@ -10,6 +10,7 @@ use Rattle.base64.specs.Base64.{isBase64, letterValue, holdsThree, holdsTwo, ho
 use Rattle.sections.specs.Reading.{cut, cutAt}
 use Rattle.sections.proofs.Cuts.{cut-is}
 use Rattle.stream.specs.Bytes.{all, same, lowered, sameName}
+use Rattle.stream.specs.Ends.{allFields, isClaimed}
 use Rattle.stream.specs.Fields.{among, isDoubled, isProtected, isProtectedDoubled, namesOf, hasField, valueOf}
 use Rattle.stream.specs.Head.{endsHead, isWholeHead, headWith, headOf, statusDigits, injectionTime, blockSize, blockKey, headKey, listedNames, trustedBy, textRules, callerRules, headFault}
 use Rattle.stream.specs.Limits.{bodyLimit}
@@ -25,14 +26,15 @@ use Rattle.stream.specs.Trailer.{endsTrailer, isWholeTrailer, isTrailer}
 use Rattle.stream.proofs.Cases.{events, eventsFrom}
 use Rattle.stream.proofs.Example.{terms, exampleHead, exampleBody}
 use Rattle.stream.proofs.GivenHeads.{given-head}
-use Rattle.exactness.specs.Good.{GoodHead, GoodTrailer}
+use Rattle.exactness.specs.Beginning.{withEnd}
+use Rattle.exactness.specs.Good.{GoodHead, GoodTrailer, claims, GoodEnd, unclaimed}
 use Rattle.exactness.specs.ShowEvents.{showEvents}
-use Rattle.exactness.specs.Shows.{Chunk, WholeShow, bodyOf, chunksWritten, streamOf, Writes, HonestChunk, HonestChunks, Sized, Honest}
+use Rattle.exactness.specs.Shows.{Chunk, WholeShow, bodyOf, chunksWritten, streamOf, Writes, HonestChunk, HonestChunks, Sized, Honest, yesesOf}
 use Rattle.exactness.specs.Telling.{released}
 use Rattle.exactness.proofs.Completeness.{show-complete, show-released}
 use Rattle.exactness.proofs.Faults.{faultless-head, faultless-trailer}
 
--- ---- the example's body, after any good head with its size
+-- ---- the example's body, after any good head with its size, and before any good trailer
 
 pub computed-head : (head : List ℕ) → cut isWholeHead head ≡ cutAt head [] → headFault terms head ≡ 0 → GoodHead terms head
 computed-head head c f = faultless-head terms head ((rw c at (cut-is isWholeHead head)) .3) f
@@ -43,24 +45,30 @@ chunk digits block = record { block = block; digits = digits; signature = replic
 chunks : List Chunk
 chunks = chunk (octets "5") (octets "Hello") ∷ chunk (octets "5") (octets " worl") ∷ chunk (octets "2") (octets "d!") ∷ []
 
-pub showAfter : List ℕ → WholeShow
-showAfter head = record { head = head; chunks = chunks; zeros = octets "0"; trailer = octets "\r\n" }
+pub showBetween : List ℕ → List ℕ → WholeShow
+showBetween head trailer = record { head = head; chunks = chunks; zeros = octets "0"; trailer = trailer }
+
+abbrev pub noFields : List ℕ
+noFields = octets "\r\n"
+
+abbrev pub showAfter : List ℕ → WholeShow
+showAfter head = showBetween head noFields
 
 -- it is written as the example is
 stream-after : (head : List ℕ) → streamOf (showAfter head) ≡ head ++ exampleBody
-unfolding showAfter chunks chunk chunksWritten textOf
+unfolding showBetween chunks chunk chunksWritten textOf
 stream-after head = refl
 
-trailer-cut : cut isWholeTrailer (octets "\r\n") ≡ cutAt (octets "\r\n") []
+pub computed-trailer : (trailer : List ℕ) → cut isWholeTrailer trailer ≡ cutAt trailer [] → isTrailer trailer ≡ true → GoodTrailer trailer
+computed-trailer trailer c i = faultless-trailer trailer ((rw c at (cut-is isWholeTrailer trailer)) .3) i
+
+trailer-cut : cut isWholeTrailer noFields ≡ cutAt noFields []
 unfolding cut isWholeTrailer endsTrailer endsWith same
 trailer-cut = refl
 
-trailer-is : isTrailer (octets "\r\n") ≡ true
+trailer-is : isTrailer noFields ≡ true
 unfolding isTrailer endsTrailer same areFieldLines textLines beforeEmpty lines
 trailer-is = refl
-
-trailer-good : GoodTrailer (octets "\r\n")
-trailer-good = faultless-trailer (octets "\r\n") ((rw trailer-cut at (cut-is isWholeTrailer (octets "\r\n"))) .3) trailer-is
 
 chunk-honest : (digits block : List ℕ) → 1 ≤ length block → Writes digits (length block) → HonestChunk (chunk digits block)
 unfolding chunk
@@ -84,33 +92,51 @@ chunks-total : length (bodyOf chunks) ≤ bodyLimit
 unfolding chunks chunk bodyOf
 chunks-total = omega arith
 
-pub honest-after : (head : List ℕ) → GoodHead terms head → blockSize (headOf head) ≡ 5 → Honest terms (showAfter head)
-unfolding showAfter isHexNumber all numberFrom
-honest-after head good five =
+body-joined : bodyOf chunks ≡ octets "Hello world!"
+unfolding chunks chunk bodyOf
+body-joined = refl
+
+pub honest-between : (head trailer : List ℕ) → GoodHead terms head → blockSize (headOf head) ≡ 5 → GoodTrailer trailer
+    → GoodEnd (headOf head) (octets "Hello world!") trailer → Honest terms (showBetween head trailer)
+unfolding showBetween isHexNumber all numberFrom
+honest-between head trailer good five good-trailer good-end =
     record {
       head = good;
       chunks = chunks-honest;
       sized = chunks-sized (blockSize (headOf head)) five;
       total = chunks-total;
       zeros = record { text = refl; value = refl };
-      trailer = trailer-good;
+      trailer = good-trailer;
+      end = rw body-joined good-end;
     }
 
--- with four yeses it comes out whole
-pub whole-after : (head : List ℕ) → Honest terms (showAfter head)
-    → (told : Bool) → plainReading terms (head ++ exampleBody) (replicate 4 true) told ≡ showEvents (terms .ring) (showAfter head)
-unfolding showAfter chunks
-whole-after head honest told =
-    ap (λ (k : List ℕ). plainReading terms k (replicate 4 true) told) (sym (append-nil (streamOf (showAfter head)) ∙ stream-after head))
-    ∙ show-complete terms (showAfter head) [] [] told honest
+pub honest-after : (head : List ℕ) → GoodHead terms head → blockSize (headOf head) ≡ 5 → claims (headOf head) noFields ≡ false → Honest terms (showAfter head)
+honest-after head good five none = honest-between head noFields good five (computed-trailer noFields trailer-cut trailer-is) (unclaimed none)
 
-pub body-after : (head : List ℕ) → Honest terms (showAfter head) → released (showEvents (terms .ring) (showAfter head)) ≡ octets "Hello world!"
-unfolding showAfter chunks chunk bodyOf
-body-after head honest = show-released terms (showAfter head) honest
+-- where no end is claimed, four yeses will do, and else one more
+pub yeses-between : (head trailer : List ℕ) (x : Bool) → claims (headOf head) trailer ≡ x → yesesOf (showBetween head trailer) ≡ withEnd x 4
+unfolding showBetween chunks
+yeses-between head trailer x e = rw e
+
+-- with them it comes out whole
+pub honest-whole : (s : WholeShow) (S : List ℕ) (n : ℕ) → Honest terms s → streamOf s ≡ S → yesesOf s ≡ n
+    → (told : Bool) → plainReading terms S (replicate n true) told ≡ showEvents (terms .ring) s
+honest-whole s S n honest stream yeses told =
+    rw (← stream, ← yeses)
+    (rw (append-nil (streamOf s), append-nil (replicate (yesesOf s) true)) at (show-complete terms s [] [] told honest))
+
+pub whole-after : (head : List ℕ) → Honest terms (showAfter head) → claims (headOf head) noFields ≡ false
+    → (told : Bool) → plainReading terms (head ++ exampleBody) (replicate 4 true) told ≡ showEvents (terms .ring) (showAfter head)
+whole-after head honest none told = honest-whole (showAfter head) (head ++ exampleBody) 4 honest (stream-after head) (yeses-between head noFields false none) told
+
+pub body-between : (head trailer : List ℕ) → Honest terms (showBetween head trailer)
+    → released (showEvents (terms .ring) (showBetween head trailer)) ≡ octets "Hello world!"
+unfolding showBetween
+body-between head trailer honest = show-released terms (showBetween head trailer) honest ∙ body-joined
 
 -- ---- the example's head
 
-head-cut : cut isWholeHead exampleHead ≡ cutAt exampleHead []
+pub head-cut : cut isWholeHead exampleHead ≡ cutAt exampleHead []
 unfolding cut isWholeHead endsHead endsWith same
 head-cut = refl
 
@@ -119,13 +145,18 @@ pub example-given : (t : Terms) (rest : List ℕ) (answers : List Bool)
     → eventsFrom t exampleHead rest answers ≡ events (plainReading t (exampleHead ++ rest) answers false)
 example-given t rest answers = given-head t exampleHead rest answers head-cut
 
-head-faultless : headFault terms exampleHead ≡ 0
+pub head-faultless : headFault terms exampleHead ≡ 0
 unfolding isBase64 letterValue holdsThree holdsTwo holdsOne joinedLetters base64Bytes all same lowered sameName among isDoubled isProtected isProtectedDoubled namesOf hasField valueOf endsHead headWith headOf statusDigits injectionTime blockSize blockKey headKey listedNames trustedBy textRules callerRules headFault endsWith lines beforeEmpty textLines trimmed fieldScan isFieldLine fieldOf areFieldLines fieldsOf statusScan isStatusLine statusOf numberFrom isDecimal fits firstFrom found firstBroken injectionScan isInjection bsigsScan isBsigs sig0Scan isSig0 splitNames areFields isNameList run past startsWith scan
 head-faultless = refl
 
-size-five : blockSize (headOf exampleHead) ≡ 5
+pub size-five : blockSize (headOf exampleHead) ≡ 5
 unfolding headWith headOf blockSize numberFrom lines beforeEmpty textLines trimmed fieldScan fieldOf fieldsOf valueOf sameName lowered same bsigsScan injectionScan sig0Scan run past startsWith scan
 size-five = refl
+
+-- none of the three fields of an end is in it, or after it
+pub none-claimed : claims (headOf exampleHead) noFields ≡ false
+unfolding allFields isClaimed headWith headOf lines beforeEmpty textLines trimmed fieldScan fieldOf fieldsOf namesOf hasField among sameName lowered same run past startsWith scan
+none-claimed = refl
 
 -- ---- the show
 
@@ -134,12 +165,12 @@ example = showAfter exampleHead
 
 pub example-honest : Honest terms example
 unfolding example
-example-honest = honest-after exampleHead (computed-head exampleHead head-cut head-faultless) size-five
+example-honest = honest-after exampleHead (computed-head exampleHead head-cut head-faultless) size-five none-claimed
 
 pub example-whole : (told : Bool) → plainReading terms (exampleHead ++ exampleBody) (replicate 4 true) told ≡ showEvents (terms .ring) example
 unfolding example
-example-whole told = whole-after exampleHead example-honest told
+example-whole told = whole-after exampleHead example-honest none-claimed told
 
 pub example-body : released (showEvents (terms .ring) example) ≡ octets "Hello world!"
 unfolding example
-example-body = body-after exampleHead example-honest
+example-body = body-between exampleHead noFields example-honest

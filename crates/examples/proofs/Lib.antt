@@ -1,3 +1,4 @@
 pub mod Example
 pub mod RepeatedExample
 pub mod AskedExample
+pub mod ClaimedExample

@@ -8,6 +8,7 @@ use Rattle.octets.specs.Octets.{octets}
 use Rattle.base64.specs.Base64.{isBase64, letterValue, holdsThree, holdsTwo, holdsOne, joinedLetters, base64Bytes}
 use Rattle.sections.specs.Reading.{cut, cutAt}
 use Rattle.stream.specs.Bytes.{all, same, lowered, sameName}
+use Rattle.stream.specs.Ends.{allFields, isClaimed}
 use Rattle.stream.specs.Fields.{among, isDoubled, isProtected, isProtectedDoubled, namesOf, hasField, valueOf}
 use Rattle.stream.specs.Head.{endsHead, isWholeHead, headWith, headOf, statusDigits, injectionTime, blockSize, blockKey, headKey, listedNames, trustedBy, textRules, callerRules, headFault}
 use Rattle.stream.specs.Lines.{endsWith, lines, beforeEmpty, textLines, trimmed, fieldScan, isFieldLine, fieldOf, areFieldLines, fieldsOf, statusScan, isStatusLine, statusOf}
@@ -22,10 +23,11 @@ use Rattle.stream.proofs.Cases.{events, eventsFrom}
 use Rattle.stream.proofs.Example.{terms, exampleBody}
 use Rattle.stream.proofs.GivenHeads.{given-head}
 use Rattle.stream.proofs.RepeatCases.{withFields, signing, repeatedHead}
+use Rattle.exactness.specs.Good.{claims}
 use Rattle.exactness.specs.ShowEvents.{showEvents}
 use Rattle.exactness.specs.Shows.{Honest}
 use Rattle.exactness.specs.Telling.{released}
-use Rattle.examples.proofs.Example.{computed-head, showAfter, honest-after, whole-after, body-after}
+use Rattle.examples.proofs.Example.{computed-head, noFields, showAfter, honest-after, whole-after, body-between}
 
 head-cut : cut isWholeHead repeatedHead ≡ cutAt repeatedHead []
 unfolding cut isWholeHead endsHead endsWith same withFields signing repeatedHead startsWith
@@ -43,11 +45,15 @@ size-five : blockSize (headOf repeatedHead) ≡ 5
 unfolding headWith headOf blockSize numberFrom lines beforeEmpty textLines trimmed fieldScan fieldOf fieldsOf valueOf sameName lowered same bsigsScan injectionScan sig0Scan run past startsWith scan withFields signing repeatedHead
 size-five = refl
 
+none-claimed : claims (headOf repeatedHead) noFields ≡ false
+unfolding allFields isClaimed headWith headOf lines beforeEmpty textLines trimmed fieldScan fieldOf fieldsOf namesOf hasField among sameName lowered same run past startsWith scan withFields signing repeatedHead
+none-claimed = refl
+
 pub repeated-honest : Honest terms (showAfter repeatedHead)
-repeated-honest = honest-after repeatedHead (computed-head repeatedHead head-cut head-faultless) size-five
+repeated-honest = honest-after repeatedHead (computed-head repeatedHead head-cut head-faultless) size-five none-claimed
 
 pub repeated-whole : (told : Bool) → plainReading terms (repeatedHead ++ exampleBody) (replicate 4 true) told ≡ showEvents (terms .ring) (showAfter repeatedHead)
-repeated-whole told = whole-after repeatedHead repeated-honest told
+repeated-whole told = whole-after repeatedHead repeated-honest none-claimed told
 
 pub repeated-body : released (showEvents (terms .ring) (showAfter repeatedHead)) ≡ octets "Hello world!"
-repeated-body = body-after repeatedHead repeated-honest
+repeated-body = body-between repeatedHead noFields repeated-honest

@@ -1,4 +1,4 @@
-// A trailer: where it ends, and whether its lines are field lines. They are neither counted nor kept.
+// A trailer: where it ends, and whether its lines are field lines. They are not kept.
 use crate::line;
 ghost use mathlib.Core.Path.{_≡_};
 ghost use Rattle.stream.specs.Lines.{areFieldLines, textLines};

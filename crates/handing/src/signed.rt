@@ -23,8 +23,8 @@ pub fn field_count(head: &[u8], accepted: usize, name: &[u8]) -> usize
     fields::count_of(text, signed_fields(text, name), name)
 }
 
-// No bytes, which are no head, where the buffer is too short.
-fn accepted_head(head: &[u8], accepted: usize) -> &[u8]
+// The accepted head: no bytes, which are no head, where the buffer is too short.
+pub fn accepted_head(head: &[u8], accepted: usize) -> &[u8]
     ensures { λ r. ⌜ now r ≡ acceptedHead (now (head .entry)) accepted ⌝ }
 {
     if head.len() < HEAD_LIMIT {

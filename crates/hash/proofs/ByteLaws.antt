@@ -1,15 +1,16 @@
--- Numbers as bytes, the highest first: how long they are, which byte stands where, and that two halves join.
+-- Numbers as bytes, the highest first: how long they are, which byte stands where, that two halves join, and how loops read and write them.
 -- Assumes nothing.
 use mathlib.Core.Path.{_≡_, refl, sym, ap, ap₂, _∙_}
 use mathlib.Core.Logic.{⊎-elim}
 use mathlib.Core.List.{List, [], _∷_, _++_, append-assoc, append-nil}
 use Prim.Native.Nat.{ℕ, zero, suc, _+_, _-_, _*_, _/_, _%_, _^_, _≤_, _<_}
-use native.Mathlib.Nat.{eq-or-lt-of-le, le-of-suc-le-suc, div-one, zero-mul, suc-mul, add-zero, add-suc, add-comm}
+use native.Mathlib.Nat.{eq-or-lt-of-le, le-of-suc-le-suc, lt-of-lt-of-le, div-one, zero-mul, suc-mul, add-zero, add-suc, add-comm, pow-suc, pow-le-pow-right}
 use native.Mathlib.Numerals.{add-one}
 use native.Mathlib.Omega.{arith}
-use lib.ListN.{length, getD, set, take, drop, length-append, List·getD-append, drop-of-length-le}
+use lib.Dec.{lit<}
+use lib.ListN.{length, getD, set, take, drop, length-append, length-take, length-drop, List·getD-append, drop-of-length-le}
 use lib.Pow.{shr-shr, field, mod-mod-pow}
-use lib.Seq.{take-append-seam, drop-append-add, length-take-le, take-suc, take-all, getD-at, paste, paste-suc, take-length, drop-drop, drop-cons, set-at, append-snoc}
+use lib.Seq.{take-append-seam, drop-append-add, length-take-le, take-suc, take-all, getD-at, getD-take, getD-drop, paste, paste-suc, take-length, drop-drop, drop-cons, set-at, append-snoc}
 use Rattle.hash.specs.Sha2.{Variant, bigEndian, number, parsed, unparsed}
 use Rattle.hash.specs.Parts.{written}
 
@@ -111,3 +112,29 @@ unparse-turn v s d o r i e h f =
 
 pub unparse-end : (v : Variant) (s d o : List ℕ) (i : ℕ) → length s ≡ i → length d ≤ i * v .bytes → o ≡ unparsed v (take i s) ++ drop (i * v .bytes) d → o ≡ unparsed v s
 unparse-end v s d o i h k e = e ∙ (rw (take-all i s (omega arith), drop-of-length-le d {i = i * v .bytes} k) (append-nil _))
+
+-- a loop that reads the number that k bytes of p write, from the place `at` on: a turn, and the end
+module _ (k : ℕ) (p : List ℕ) (at : ℕ) (h : at + k ≤ length p) where
+  long-part : length (take k (drop at p)) ≡ k
+  long-part = simp (length-take, length-drop) (omega arith)
+
+  pub read-turn : (i x b : ℕ) → i < k → b ≡ getD p (at + i) 0 → number x (drop i (take k (drop at p))) ≡ number (x * 256 + b) (drop (i + 1) (take k (drop at p)))
+  unfolding number
+  read-turn i x b l e =
+      let m : i < length (take k (drop at p)) = omega (arith, long-part) in
+      rw (e, add-one, drop-cons (take k (drop at p)) i 0, getD-take k (drop at p) i 0, getD-drop at p i 0)
+
+  pub read-end : (i x : ℕ) → k ≤ i → number x (drop i (take k (drop at p))) ≡ x
+  unfolding number
+  read-end i x l =
+      let m : length (take k (drop at p)) ≤ i = omega (arith, long-part) in
+      rw drop-of-length-le
+
+-- and how far the number grows
+pub read-grows : (x i b : ℕ) → x < 256 ^ i → b < 256 → x * 256 + b < 256 ^ (i + 1)
+read-grows x i b h k = rw (add-one, pow-suc 256 i) (omega arith)
+
+pub read-fits : (k x i b : ℕ) → x < 256 ^ i → b < 256 → i < k → x * 256 + b < 256 ^ k
+read-fits k x i b h j l =
+    let m : i + 1 ≤ k = omega arith in
+    lt-of-lt-of-le (read-grows x i b h j) (pow-le-pow-right {n = 256} (lit< tt) m)

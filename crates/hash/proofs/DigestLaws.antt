@@ -1,4 +1,4 @@
--- The hash is 64 bytes: its length, and that each number of it is below 256.
+-- A hash is bytes: how many, and that each number of it is below 256.
 -- Assumes nothing.
 use mathlib.Core.Path.{_≡_, refl, ap, _∙_}
 use mathlib.Core.List.{List, [], _∷_, _++_}
@@ -6,7 +6,7 @@ use Prim.Native.Nat.{ℕ, zero, suc, _+_, _*_, _/_, _%_, _<_}
 use native.Mathlib.Omega.{arith}
 use lib.ListN.{length, getD, drop}
 use Rattle.hash.specs.Sha2.{Variant, blockSize, bigEndian, padded, parsed, sums, compressed, hashed, unparsed, digest}
-use Rattle.hash.specs.Sha512.{variant, initialWords, sha512}
+use Rattle.hash.specs.Sha512.{variant, sha512}
 use Rattle.hash.proofs.ByteLaws.{long-unparsed}
 
 -- each element is a byte (past the end `getD` gives 0)
@@ -38,15 +38,23 @@ unfolding hashed compressed sums
 long-hashed v zero p s h = h
 long-hashed v (suc n) p s h = long-hashed v n (drop (blockSize v) p) (compressed v (parsed v 16 p) s) refl
 
+pub long-digest : (v : Variant) (m : List ℕ) → length (v .initial) ≡ 8 → length (digest v m) ≡ 8 * v .bytes
+unfolding digest
+long-digest v m h =
+    let p = padded v m in
+    let n = length p / blockSize v in
+    long-unparsed v (hashed v n p (v .initial)) ∙ ap (λ (i : ℕ). i * v .bytes) (long-hashed v n p (v .initial) h)
+
+pub bytes-digest : (v : Variant) (m : List ℕ) → AreBytes (digest v m)
+unfolding digest
+bytes-digest v m =
+    let p = padded v m in
+    bytes-unparsed v (hashed v (length p / blockSize v) p (v .initial))
+
 pub length-sha512 : (m : List ℕ) → length (sha512 m) ≡ 64
-unfolding sha512 digest
-length-sha512 m =
-    let p = padded variant m in
-    let s = hashed variant (length p / 128) p initialWords in
-    long-unparsed variant s ∙ ap (λ (n : ℕ). n * 8) (long-hashed variant (length p / 128) p initialWords refl)
+unfolding sha512
+length-sha512 m = long-digest variant m refl
 
 pub bytes-sha512 : (m : List ℕ) → AreBytes (sha512 m)
-unfolding sha512 digest
-bytes-sha512 m =
-    let p = padded variant m in
-    bytes-unparsed variant (hashed variant (length p / 128) p initialWords)
+unfolding sha512
+bytes-sha512 m = bytes-digest variant m

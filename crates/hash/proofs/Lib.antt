@@ -2,3 +2,4 @@ pub mod ByteLaws
 pub mod BlockLaws
 pub mod LastLaws
 pub mod DigestLaws
+pub mod PartLaws

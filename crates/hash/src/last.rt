@@ -6,8 +6,9 @@ use crate::bytes::put_word;
 ghost use mathlib.Core.Path.{_≡_};
 ghost use Prim.Native.Nat.{_+_, _*_, _/_, _%_, _^_, _≤_, _<_};
 ghost use lib.ListN.{length, take};
-ghost use Rattle.hash.specs.Sha512.{roundWords};
-ghost use Rattle.hash.specs.Parts.{lastBlocks, finished};
+ghost use Rattle.hash.specs.Sha2.{finished};
+ghost use Rattle.hash.specs.Sha512.{variant, roundWords};
+ghost use Rattle.hash.specs.Parts.{lastBlocks};
 
 // The high word of the length in bits of a message of seen blocks, one at most, and n bytes more.
 // Bytes are counted in eights, so that no sum wraps whatever n is.
@@ -37,7 +38,7 @@ fn count(n: usize) -> usize
 // The last bytes with the padding, in the first of two blocks or in both. What stands after them is not read.
 fn fill(rest: &[u8], high: u64, low: u64) -> [u8; 256]
     requires { ⌜ length (now rest) < 128 ⌝ }
-    ensures { λ r. ⌜ take (length (lastBlocks (now (rest .entry)) high low)) r ≡ lastBlocks (now (rest .entry)) high low ⌝ }
+    ensures { λ r. ⌜ take (length (lastBlocks variant (now (rest .entry)) high low)) r ≡ lastBlocks variant (now (rest .entry)) high low ⌝ }
 {
     let mut t = [0u8; 256];
     let n = rest.len();
@@ -52,7 +53,7 @@ fn fill(rest: &[u8], high: u64, low: u64) -> [u8; 256]
 // The hash of a message whose first blocks, seen of them, are hashed to the value before, and whose other bytes are body.
 pub(crate) fn finish(words: &[u64; 80], before: [u64; 8], seen: usize, body: &[u8]) -> [u8; 64]
     requires { ⌜ (now words ≡ roundWords) × (seen ≤ 1) ⌝ }
-    ensures { λ r. ⌜ r ≡ finished seen (now (body .entry)) before ⌝ }
+    ensures { λ r. ⌜ r ≡ finished variant (seen * 128 + length (now (body .entry))) (now (body .entry)) before ⌝ }
 {
     let n = body.len();
     let whole = n / 128;

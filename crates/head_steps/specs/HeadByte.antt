@@ -9,6 +9,7 @@ use Rattle.refusals.specs.Refusals.{placed}
 use Rattle.judging.specs.Judgement.{Judgement, headJudged}
 use Rattle.judging.specs.declared.HeadAnswer.{HeadAnswer}
 use Rattle.judging.specs.declared.HeadAnswer.the-variants as A
+use Rattle.sha256.specs.Midstate.{start}
 use Rattle.stream.specs.Head.{isWholeHead}
 use Rattle.stream.specs.Limits.{headLimit}
 use Rattle.stream.specs.Terms.{Terms}
@@ -18,9 +19,9 @@ use Rattle.state.specs.declared.reader.Fixed.{Fixed}
 use Rattle.state.specs.declared.reader.Reader.{Reader}
 use Rattle.state.specs.declared.word.Word.the-variants as W
 
--- the reader while its head's question is open: it keeps what the head of n bytes fixes
+-- the reader while its head's question is open: it keeps what the head of n bytes fixes, and no block has come
 abbrev pub asking : Reader → ℕ → Fixed → Reader
-asking r n fixed = readerAt r (P.HeadAsked n) fixed (record { number = record { 0 = 0 }; hash = r .chain .hash }) (r .released)
+asking r n fixed = readerAt r (P.HeadAsked n) fixed (record { number = record { 0 = 0 }; hash = r .chain .hash; body = start }) (r .released)
 
 -- what the head says; it is not accepted yet
 abbrev pub fixing : Fixed → ℕ → ℕ → ℕ → List ℕ → ℕ → Fixed

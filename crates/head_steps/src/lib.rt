@@ -32,6 +32,7 @@ fn asked(r: Reader, n: usize, fixed: Fixed) -> Reader
     let mut chain = r.chain;
     let first = BlockNumber(0);
     chain.number = first;
+    chain.body = sha256::start();
     let mut reader = state::in_phase(r, Phase::HeadAsked(n));
     reader.fixed = fixed;
     reader.chain = chain;

@@ -33,7 +33,7 @@ module _ (text : List ℕ) (r : HeadRead) (x : Reads text r) (z : r .fault ≡ 0
     string-there = rw (names-there text r x z list l, x .says z .fields, d ∙ digits-there text r x z, s ∙ created-there text r x z)
 
     string-fits : length (signingString (headOf text)) ≤ length text
-    string-fits = signing-fits′ text (status-good text r x z) (lines-good text r x z) (sig0-good text r x z) (names-good text r x z)
+    string-fits = signing-fits′ text (record { status = status-good text r x z; lines = lines-good text r x z; sig0 = sig0-good text r x z; names = names-good text r x z })
 
     -- the length of the string and the buffer, after it was written
     module _ (question : List ℕ) (h : length text ≤ length question) (n : ℕ) (b : List ℕ) (e : placed n b ≡ wrote question 0 string) where

@@ -14,7 +14,8 @@ use Rattle.hash.specs.Sha512.{roundWords, sha512}
 use Rattle.sections.specs.Reading.{question, message, last, Log, cut, sections, readingAt, reading}
 use Rattle.stream.specs.Blocks.{isWholeLine, carriesSignature, isChunkLine, chunkSize, lineSignature, lineRules, lineFault, chained, blockMessage}
 use Rattle.stream.specs.Bytes.{all, same, lowered, sameName}
-use Rattle.stream.specs.Events.{Question, Release, LastWord, closed, refused}
+use Rattle.stream.specs.Ends.{allFields, isClaimed}
+use Rattle.stream.specs.Events.{Question, Release, LastWord, closed, complete, refused}
 use Rattle.stream.specs.Fields.{among, isDoubled, isProtected, isProtectedDoubled, namesOf, hasField, valueOf}
 use Rattle.stream.specs.Head.{endsHead, isWholeHead, headWith, headOf, statusDigits, injectionId, injectionTime, blockSize, blockKey, headKey, listedNames, headSignature, trustedBy, textRules, callerRules, headFault}
 use Rattle.stream.specs.Lines.{endsWith, lines, beforeEmpty, textLines, trimmed, fieldScan, isFieldLine, fieldOf, areFieldLines, fieldsOf, statusScan, isStatusLine, statusOf}
@@ -23,7 +24,7 @@ use Rattle.stream.specs.Ring.{fits, firstFrom, found}
 use Rattle.stream.specs.Rule.{firstBroken}
 use Rattle.stream.specs.Signatures.{injectionScan, isInjection, bsigsScan, isBsigs, sig0Scan, isSig0, splitNames, areFields, isNameList}
 use Rattle.stream.specs.Signing.{separated, signingLine, signingText}
-use Rattle.stream.specs.Stream.{isWhole, showOf, acceptHead, judgeFirstLine, judgeDataEnd, blockQuestion, acceptBlock, judgeNextLine, judgeTrailer, judge, rules}
+use Rattle.stream.specs.Stream.{isWhole, showOf, acceptHead, judgeFirstLine, judgeDataEnd, blockQuestion, acceptBlock, judgeNextLine, judgeEnd, judgeTrailer, judge, rules}
 use Rattle.stream.specs.Template.{run, past, startsWith, scan}
 use Rattle.stream.specs.Trailer.{endsTrailer, isWholeTrailer, isTrailer}
 use Rattle.stream.proofs.Example.{terms, injection, exampleHead, exampleBody}
@@ -50,6 +51,7 @@ isRefused n [] = false
 isRefused n ((place, question q) ∷ log) = isRefused n log
 isRefused n ((place, message e) ∷ log) = isRefused n log
 isRefused n ((place, last (closed total)) ∷ log) = isRefused n log
+isRefused n ((place, last (complete total)) ∷ log) = isRefused n log
 isRefused n ((place, last (refused m at)) ∷ log) = eqb n m || isRefused n log
 
 refused-there : (n place at : ℕ) (before after : Log Question Release LastWord) → isRefused n (before ++ (place, last (refused n at)) ∷ after) ≡ true
@@ -58,6 +60,7 @@ refused-there n place at [] after = rw (eq-eqb n n refl)
 refused-there n place at ((p, question q) ∷ before) after = refused-there n place at before after
 refused-there n place at ((p, message e) ∷ before) after = refused-there n place at before after
 refused-there n place at ((p, last (closed total)) ∷ before) after = refused-there n place at before after
+refused-there n place at ((p, last (complete total)) ∷ before) after = refused-there n place at before after
 refused-there n place at ((p, last (refused m a)) ∷ before) after = rw (refused-there n place at before after) (or-true (eqb n m))
 
 pub never-refused : (n : ℕ) (log : Log Question Release LastWord) → isRefused n log ≡ false → NeverRefused n log
@@ -68,7 +71,7 @@ abbrev exampleReading : Log Question Release LastWord
 exampleReading = olderReading terms (exampleHead ++ exampleBody) (replicate 4 true) true
 
 unrefused : isRefused 3 exampleReading ≡ false
-unfolding isBase64 letterValue holdsThree holdsTwo holdsOne joinedLetters base64Bytes cut sections readingAt reading isWholeLine carriesSignature isChunkLine chunkSize lineSignature lineRules lineFault chained blockMessage all same lowered sameName among isDoubled isProtected isProtectedDoubled namesOf hasField valueOf endsHead isWholeHead headWith headOf statusDigits injectionId injectionTime blockSize blockKey headKey listedNames headSignature trustedBy textRules callerRules headFault endsWith lines beforeEmpty textLines trimmed fieldScan isFieldLine fieldOf areFieldLines fieldsOf statusScan isStatusLine statusOf numberFrom isDecimal isHexNumber decimalWithin decimal fits firstFrom found firstBroken injectionScan isInjection bsigsScan isBsigs sig0Scan isSig0 splitNames areFields isNameList separated signingLine signingText isWhole showOf judgeFirstLine judgeDataEnd blockQuestion acceptBlock judgeNextLine judgeTrailer judge rules bigEndian padding padded number parsed schedule round rounds sums compressed hashed unparsed digest roundWords sha512 run past startsWith scan endsTrailer isWholeTrailer isTrailer isRefused olderRules olderFault singleFields olderSigned olderString olderQuestion olderAccept olderHead olderReading judgeWith readingWith
+unfolding isBase64 letterValue holdsThree holdsTwo holdsOne joinedLetters base64Bytes cut sections readingAt reading isWholeLine carriesSignature isChunkLine chunkSize lineSignature lineRules lineFault chained blockMessage all same lowered sameName among isDoubled isProtected isProtectedDoubled namesOf hasField valueOf endsHead isWholeHead headWith headOf statusDigits injectionId injectionTime blockSize blockKey headKey listedNames headSignature trustedBy textRules callerRules headFault endsWith lines beforeEmpty textLines trimmed fieldScan isFieldLine fieldOf areFieldLines fieldsOf statusScan isStatusLine statusOf numberFrom isDecimal isHexNumber decimalWithin decimal fits firstFrom found firstBroken injectionScan isInjection bsigsScan isBsigs sig0Scan isSig0 splitNames areFields isNameList separated signingLine signingText isWhole showOf judgeFirstLine judgeDataEnd blockQuestion acceptBlock judgeNextLine allFields isClaimed judgeEnd judgeTrailer judge rules bigEndian padding padded number parsed schedule round rounds sums compressed hashed unparsed digest roundWords sha512 run past startsWith scan endsTrailer isWholeTrailer isTrailer isRefused olderRules olderFault singleFields olderSigned olderString olderQuestion olderAccept olderHead olderReading judgeWith readingWith
 unrefused = refl
 
 -- what is said of readings without refusal 3 is said of this one
@@ -81,7 +84,7 @@ abbrev exampleUnderPaper : Log Question Release LastWord
 exampleUnderPaper = readingUnder paperLimits terms (exampleHead ++ exampleBody) (replicate 4 true) true
 
 unrefused-under-paper : isRefused 3 exampleUnderPaper || isRefused 6 exampleUnderPaper ≡ false
-unfolding isBase64 letterValue holdsThree holdsTwo holdsOne joinedLetters base64Bytes cut sections readingAt reading isWholeLine carriesSignature isChunkLine chunkSize lineSignature lineRules lineFault chained blockMessage all same lowered sameName among isDoubled isProtected isProtectedDoubled namesOf hasField valueOf endsHead isWholeHead headWith headOf statusDigits injectionId injectionTime blockSize blockKey headKey listedNames headSignature trustedBy textRules callerRules headFault endsWith lines beforeEmpty textLines trimmed fieldScan isFieldLine fieldOf areFieldLines fieldsOf statusScan isStatusLine statusOf numberFrom isDecimal isHexNumber decimalWithin decimal fits firstFrom found firstBroken injectionScan isInjection bsigsScan isBsigs sig0Scan isSig0 splitNames areFields isNameList separated signingLine signingText isWhole showOf judgeFirstLine judgeDataEnd blockQuestion acceptBlock judgeNextLine judgeTrailer judge rules bigEndian padding padded number parsed schedule round rounds sums compressed hashed unparsed digest roundWords sha512 run past startsWith scan endsTrailer isWholeTrailer isTrailer isRefused judgeWith acceptHead isWholeUnder textRulesUnder faultUnder judgeHeadUnder readingUnder
+unfolding isBase64 letterValue holdsThree holdsTwo holdsOne joinedLetters base64Bytes cut sections readingAt reading isWholeLine carriesSignature isChunkLine chunkSize lineSignature lineRules lineFault chained blockMessage all same lowered sameName among isDoubled isProtected isProtectedDoubled namesOf hasField valueOf endsHead isWholeHead headWith headOf statusDigits injectionId injectionTime blockSize blockKey headKey listedNames headSignature trustedBy textRules callerRules headFault endsWith lines beforeEmpty textLines trimmed fieldScan isFieldLine fieldOf areFieldLines fieldsOf statusScan isStatusLine statusOf numberFrom isDecimal isHexNumber decimalWithin decimal fits firstFrom found firstBroken injectionScan isInjection bsigsScan isBsigs sig0Scan isSig0 splitNames areFields isNameList separated signingLine signingText isWhole showOf judgeFirstLine judgeDataEnd blockQuestion acceptBlock judgeNextLine allFields isClaimed judgeEnd judgeTrailer judge rules bigEndian padding padded number parsed schedule round rounds sums compressed hashed unparsed digest roundWords sha512 run past startsWith scan endsTrailer isWholeTrailer isTrailer isRefused judgeWith acceptHead isWholeUnder textRulesUnder faultUnder judgeHeadUnder readingUnder
 unrefused-under-paper = refl
 
 -- what is said of readings under the older limits without refusals 3 and 6 is said of this one

@@ -1,13 +1,15 @@
--- Two readings of one stream whose sections are read the same, but for some that the one refuses: up to its refusal they are one reading.
+-- Two readings of one stream whose sections are read the same, but for some that the one ends with: up to that last word they are one reading.
 -- Assumes nothing.
 use mathlib.Core.Bool.{Bool, true, false}
 use mathlib.Core.List.{List, [], _∷_, _++_}
-use mathlib.Core.Path.{_≡_, refl, ap}
-use Prim.Native.Nat.{ℕ, zero, suc, _+_}
-use lib.ListN.{length}
+use mathlib.Core.Path.{_≡_, refl, sym, ap, _∙_}
+use Prim.Native.Nat.{ℕ, zero, suc, _+_, _-_}
+use native.Mathlib.Omega.{arith}
+use lib.ListN.{length, take, drop, length-append, take-append-drop}
+use lib.Seq.{take-append-seam}
 use Rattle.sections.specs.Reading.{Log, Event, last, go, tell, ask, stop, Grant, granted, final, Rules, uncut, cutAt, cut, answered, judged, ranOut, sections, readingAt, reading}
 use Rattle.sections.specs.Resuming.{Begins}
-use Rattle.stream.specs.Events.{Question, Release, LastWord, refused}
+use Rattle.stream.specs.Events.{Question, Release, LastWord}
 use Rattle.stream.specs.Stream.{Context, Says}
 
 abbrev pub StreamLog : Type 0
@@ -16,24 +18,25 @@ StreamLog = Log Question Release LastWord
 abbrev pub StreamRules : Type 0
 StreamRules = Rules Context Question Release LastWord
 
--- the second log is the first; or the first ends in such a refusal, and the second begins with all before it
-pub data Further (lifted : ℕ → ℕ → Bool) (one other : StreamLog) : Type 0 where
+-- the second log is the first; or the first ends in such a last word, and the second begins with all before it
+pub data Further (lifted : LastWord → Bool) (one other : StreamLog) : Type 0 where
   same : other ≡ one → Further lifted one other
-  onward : (before : StreamLog) (at n place : ℕ) → lifted n place ≡ true → one ≡ before ++ (at, last (refused n place)) ∷ [] → Begins before other → Further lifted one other
+  onward : (before : StreamLog) (at : ℕ) (word : LastWord) → lifted word ≡ true → one ≡ before ++ (at, last word) ∷ [] → Begins before other
+      → Further lifted one other
 
--- the next section, of the bytes bs: there is none by either rules, or both cut it off and judge it the same, or the first refuse it so
-pub data Alike (lifted : ℕ → ℕ → Bool) (R S : StreamRules) (c : Context) (bs : List ℕ) : Type 0 where
+-- the next section, of the bytes bs: there is none by either rules, or both cut it off and judge it the same, or the first end with it so
+pub data Alike (lifted : LastWord → Bool) (R S : StreamRules) (c : Context) (bs : List ℕ) : Type 0 where
   neither : cut (R .whole c) bs ≡ uncut → cut (S .whole c) bs ≡ uncut → Alike lifted R S c bs
   alike : (f r : List ℕ) → cut (R .whole c) bs ≡ cutAt f r → cut (S .whole c) bs ≡ cutAt f r → S .judge c f ≡ R .judge c f → Alike lifted R S c bs
-  refuses : (f r : List ℕ) (n place : ℕ) → cut (R .whole c) bs ≡ cutAt f r → R .judge c f ≡ stop (refused n place) → lifted n place ≡ true → Alike lifted R S c bs
+  stops : (f r : List ℕ) (word : LastWord) → cut (R .whole c) bs ≡ cutAt f r → R .judge c f ≡ stop word → lifted word ≡ true → Alike lifted R S c bs
 
-module _ (lifted : ℕ → ℕ → Bool) where
+module _ (lifted : LastWord → Bool) where
   pushed : (x : ℕ × Event Question Release LastWord) (one other : StreamLog) → Further lifted one other → Further lifted (x ∷ one) (x ∷ other)
   pushed x one other (same e) = same (ap (λ (l : StreamLog). x ∷ l) e)
-  pushed x one other (onward before at n place t e b) =
-      onward (x ∷ before) at n place t (ap (λ (l : StreamLog). x ∷ l) e) (record { rest = b .rest; joined = ap (λ (l : StreamLog). x ∷ l) (b .joined) })
+  pushed x one other (onward before at word t e b) =
+      onward (x ∷ before) at word t (ap (λ (l : StreamLog). x ∷ l) e) (record { rest = b .rest; joined = ap (λ (l : StreamLog). x ∷ l) (b .joined) })
 
-module _ (lifted : ℕ → ℕ → Bool) (R S : StreamRules) (denied : S .denied ≡ R .denied) (unfinished : S .unfinished ≡ R .unfinished)
+module _ (lifted : LastWord → Bool) (R S : StreamRules) (denied : S .denied ≡ R .denied) (unfinished : S .unfinished ≡ R .unfinished)
     (each : (c : Context) (bs : List ℕ) → Alike lifted R S c bs) where
   abbrev Next : Type 0
   Next = Context → List Bool → StreamLog
@@ -71,8 +74,8 @@ module _ (lifted : ℕ → ℕ → Bool) (R S : StreamRules) (denied : S .denied
   section-further k rest c at bs answers told (neither e d) = rw (e, d) (ran-out (at + length bs) told)
   section-further k rest c at bs answers told (alike f r e d j) =
       rw (e, d, j) (judged-further (R .judge c f) (at + length f) answers _ _ (λ c′ answers′. rest c′ (at + length f) r answers′ told))
-  section-further k rest c at bs answers told (refuses f r n place e j t) =
-      onward [] (at + length f) n place t (rw (e, j)) (record { rest = _; joined = refl })
+  section-further k rest c at bs answers told (stops f r word e j t) =
+      onward [] (at + length f) word t (rw (e, j)) (record { rest = _; joined = refl })
 
   sections-further : (k : ℕ) → FurtherIn k
   unfolding sections
@@ -83,3 +86,14 @@ module _ (lifted : ℕ → ℕ → Bool) (R S : StreamRules) (denied : S .denied
       → Further lifted (reading R c stream answers told) (reading S c stream answers told)
   unfolding reading readingAt
   reading-further c stream answers told = sections-further (length stream) c 0 stream answers told
+
+-- ---- all but the last event
+
+all-but-last : (before : StreamLog) (x : ℕ × Event Question Release LastWord) → take (length (before ++ x ∷ []) - 1) (before ++ x ∷ []) ≡ before
+all-but-last before x =
+    let n : length (before ++ x ∷ []) - 1 ≡ length before = omega (arith, length-append before (x ∷ [])) in
+    rw n (take-append-seam before (x ∷ []))
+
+pub begins-with : (lifted : LastWord → Bool) (before now : StreamLog) → Further lifted before now → Begins (take (length before - 1) before) now
+begins-with lifted before now (same e) = record { rest = drop (length before - 1) before; joined = take-append-drop (length before - 1) before ∙ sym e }
+begins-with lifted before now (onward front at word t e b) = rw (e, all-but-last front (at, last word)) b

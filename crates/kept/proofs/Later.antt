@@ -9,11 +9,12 @@ use Rattle.sections.specs.Reading.{Log, go, tell, ask, stop, Grant, granted, fi
 use Rattle.sections.proofs.Scans.{section-read}
 use Rattle.stream.specs.Blocks.{lineFault, chunkSize}
 use Rattle.stream.specs.Bytes.{same}
-use Rattle.stream.specs.Events.{Question, Release, LastWord}
+use Rattle.stream.specs.Ends.{allFields, isClaimed, endFault}
+use Rattle.stream.specs.Events.{Question, Release, LastWord, complete}
 use Rattle.stream.specs.Head.{isWholeHead, headOf, headFault}
-use Rattle.stream.specs.Lines.{crlf}
+use Rattle.stream.specs.Lines.{crlf, Field}
 use Rattle.stream.specs.Places.{headPlace, linePlace}
-use Rattle.stream.specs.Stream.{Show, Past, nothing, after, Context, head, firstLine, blockData, dataEnd, nextLine, trailer, isWhole, Says, unlessBroken, announced, acceptHead, acceptBlock, bodyWith, judgeHead, judgeFirstLine, judgeDataEnd, judgeNextLine, judgeTrailer, judge, rules, plainReading}
+use Rattle.stream.specs.Stream.{Show, Past, nothing, after, Context, head, firstLine, blockData, dataEnd, nextLine, trailer, isWhole, Says, unlessBroken, announced, acceptHead, acceptBlock, bodyWith, judgeHead, judgeFirstLine, judgeDataEnd, judgeNextLine, endQuestion, judgeEnd, judgeTrailer, judge, rules, plainReading}
 use Rattle.stream.specs.Terms.{Terms}
 use Rattle.stream.specs.Trailer.{isTrailer}
 use Rattle.kept.specs.OtherHeads.{judgeWith, rulesWith, readingWith}
@@ -27,7 +28,7 @@ Later (firstLine s) = Unit
 Later (blockData s p n) = Unit
 Later (dataEnd s p b) = Unit
 Later (nextLine s p b) = Unit
-Later (trailer total) = Unit
+Later (trailer s p total) = Unit
 
 -- reading goes on there, if at all
 abbrev LeadsOn : Says → Type 0
@@ -49,6 +50,10 @@ test-leads : (t : Bool) (v w : Says) → LeadsOn v → LeadsOn w → LeadsOn (el
 test-leads true v w k m = k
 test-leads false v w k m = m
 
+end-leads : (s : Show) (total : ℕ) (hash : List ℕ) (fs : List Field) → LeadsOn (judgeEnd s total hash fs)
+unfolding judgeEnd
+end-leads s total hash fs = test-leads (isClaimed fs) _ _ (unless-leads (endFault (s .head) fs total hash) 0 (ask (endQuestion s fs) (final (complete total))) tt) tt
+
 judge-leads : (terms : Terms) (c : Context) (l : List ℕ) → LeadsOn (judge terms c l)
 unfolding judge judgeHead judgeFirstLine judgeDataEnd judgeNextLine judgeTrailer acceptHead acceptBlock
 judge-leads terms head l = unless-leads (headFault terms l) (headPlace l) (acceptHead (terms .ring) (headOf l)) tt
@@ -60,7 +65,7 @@ judge-leads terms (dataEnd s p b) l = test-leads (same l crlf) _ _ tt tt
 judge-leads terms (nextLine s p b) l =
     unless-leads (lineFault (s .size) true (eqb (length b) (s .size)) (bodyWith s p b) l) (linePlace l) (acceptBlock s p b l)
     (announced-later s (after p b) (bodyWith s p b) (chunkSize l))
-judge-leads terms (trailer total) l = test-leads (isTrailer l) _ _ tt tt
+judge-leads terms (trailer s p total) l = test-leads (isTrailer l) _ _ (end-leads s total _ (allFields (s .head) l)) tt
 
 -- ---- the two readings
 
@@ -71,7 +76,7 @@ judge-same terms other (firstLine s) l k = refl
 judge-same terms other (blockData s p n) l k = refl
 judge-same terms other (dataEnd s p b) l k = refl
 judge-same terms other (nextLine s p b) l k = refl
-judge-same terms other (trailer total) l k = refl
+judge-same terms other (trailer s p total) l k = refl
 
 module _ (terms : Terms) (other : List ℕ → Says) where
   abbrev Next : Type 0

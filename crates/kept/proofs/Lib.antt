@@ -8,3 +8,5 @@ pub mod OtherShow
 pub mod AskedExample
 pub mod Further
 pub mod Limits
+pub mod Unchecked
+pub mod Unclaimed

@@ -2,22 +2,20 @@
 -- nothing.
 use borrow.Author.Tests.{eqb-true, eq-eqb, leb-true, leb-false, le-leb, lt-leb}
 use mathlib.Core.Bool.{Bool, true, false, _&&_, _||_, true≢false}
-use mathlib.Core.List.{List, [], _∷_, _++_}
+use mathlib.Core.List.{List, [], _∷_}
 use mathlib.Core.Path.{_≡_, refl, sym, _∙_}
-use Prim.Native.Nat.{ℕ, _-_, _≤_, _<_}
+use Prim.Native.Nat.{ℕ, _≤_, _<_}
 use native.Mathlib.Omega.{arith}
 use lib.Dec.{eqb, leb}
-use lib.ListN.{length, take, drop, length-append, take-append-drop}
-use lib.Seq.{take-append-seam}
-use Rattle.sections.specs.Reading.{Event, last, stop, Cut, uncut, cutAt, cut}
-use Rattle.sections.specs.Resuming.{Begins}
+use lib.ListN.{length, take}
+use Rattle.sections.specs.Reading.{last, stop, Cut, uncut, cutAt, cut}
 use Rattle.sections.proofs.Cuts.{NoneBelow, IsCut, cut-is, cut-at, cut-none}
-use Rattle.stream.specs.Events.{Question, Release, LastWord, refused, placeOf}
+use Rattle.stream.specs.Events.{LastWord, closed, complete, refused, placeOf}
 use Rattle.stream.specs.Head.{endsHead, isWholeHead, headOf, textRules, headFault}
 use Rattle.stream.specs.Limits.{headLimit, fieldLimit}
 use Rattle.stream.specs.Places.{headPlace, trailerPlace}
 use Rattle.stream.specs.Rule.{Rule, rule, firstBroken}
-use Rattle.stream.specs.Stream.{Context, head, firstLine, blockData, dataEnd, nextLine, trailer, isWhole, judge, judgeHead, judgeTrailer, rules, plainReading}
+use Rattle.stream.specs.Stream.{Show, Past, Context, head, firstLine, blockData, dataEnd, nextLine, trailer, isWhole, judge, judgeHead, judgeTrailer, rules, plainReading}
 use Rattle.stream.specs.Terms.{Terms}
 use Rattle.stream.specs.Trailer.{endsTrailer, isWholeTrailer, isTrailer}
 use Rattle.stream.proofs.PlaceCases.{unended-places}
@@ -27,7 +25,7 @@ use Rattle.exactness.proofs.Ends.{limited, none-short, none-front}
 use Rattle.kept.specs.Kept.{NeverRefused, NeverRefusedAt, SameUnder, NoneLost, UnderThese}
 use Rattle.kept.specs.OtherHeads.{judgeWith}
 use Rattle.kept.specs.OtherLimits.{SectionLimits, theseLimits, isWholeUnder, textRulesUnder, faultUnder, judgeHeadUnder, rulesUnder, readingUnder}
-use Rattle.kept.proofs.Further.{StreamLog, Further, same, onward, Alike, neither, alike, refuses, reading-further}
+use Rattle.kept.proofs.Further.{StreamLog, Further, same, onward, Alike, neither, alike, stops, reading-further, begins-with}
 
 -- ---- cuts by a test that holds less often
 
@@ -77,8 +75,10 @@ fourth-broken true true true rs = refl
 -- ---- the sections
 
 -- the refusals that limits give: 3, or 6 at a trailer's limit
-abbrev isLifted : SectionLimits → ℕ → ℕ → Bool
-isLifted limits n place = eqb n 3 || (eqb n 6 && eqb place (limits .bytes))
+abbrev isLifted : SectionLimits → LastWord → Bool
+isLifted limits (closed total) = false
+isLifted limits (complete total) = false
+isLifted limits (refused n place) = eqb n 3 || (eqb n 6 && eqb place (limits .bytes))
 
 module _ (limits : SectionLimits) (terms : Terms) where
   unended-fault : (l : List ℕ) → endsHead l ≡ false → faultUnder limits terms l ≡ 3
@@ -95,12 +95,13 @@ module _ (limits : SectionLimits) (terms : Terms) where
   few-fault h l e =
       rw (e, le-leb (length (headOf l .fields)) fieldLimit (omega (arith, h, leb-true (length (headOf l .fields)) (limits .fields) e)))
 
-  unended-trailer : (total : ℕ) (l : List ℕ) → endsTrailer l ≡ false → judgeTrailer total l ≡ stop (refused 6 (trailerPlace l))
+  unended-trailer : (s : Show) (p : Past) (total : ℕ) (l : List ℕ) → endsTrailer l ≡ false
+      → judgeTrailer s p total l ≡ stop (refused 6 (trailerPlace l))
   unfolding judgeTrailer isTrailer
-  unended-trailer total l e = rw (judgeTrailer, isTrailer, e)
+  unended-trailer s p total l e = rw (judgeTrailer, isTrailer, e)
 
   -- a section that both cut off at the same place, and judge the same
-  here : (lifted : ℕ → ℕ → Bool) (c : Context) (bs : List ℕ) (m : Cut) → cut (isWholeUnder limits c) bs ≡ m → cut (isWhole c) bs ≡ m
+  here : (lifted : LastWord → Bool) (c : Context) (bs : List ℕ) (m : Cut) → cut (isWholeUnder limits c) bs ≡ m → cut (isWhole c) bs ≡ m
       → ((l : List ℕ) → judge terms c l ≡ judgeWith (judgeHeadUnder limits terms) c l) → Alike lifted (rulesUnder limits terms) (rules terms) c bs
   unfolding rules
   here lifted c bs uncut e d j = neither e d
@@ -116,7 +117,7 @@ module _ (limits : SectionLimits) (terms : Terms) where
     head-alike bs (cutAt f r) e = by (endsHead f) refl (leb (length (headOf f .fields)) (limits .fields)) refl
       where
         refused-here : faultUnder limits terms f ≡ 3 → AlikeIn head bs
-        refused-here three = refuses f r 3 (placeOf 3 (headPlace f)) e (rw three) refl
+        refused-here three = stops f r (refused 3 (placeOf 3 (headPlace f))) e (rw three) refl
 
         by : (ended : Bool) → endsHead f ≡ ended → (few : Bool) → leb (length (headOf f .fields)) (limits .fields) ≡ few → AlikeIn head bs
         by false x few y = refused-here (unended-fault f x)
@@ -124,15 +125,16 @@ module _ (limits : SectionLimits) (terms : Terms) where
         by true x true y =
             alike f r e (same-cut _ bs f r e _ (limit-less endsHead (limits .bytes) headLimit bytes) (rw x)) (rw (few-fault fields f y))
 
-    trailer-alike : (total : ℕ) (bs : List ℕ) (m : Cut) → cut (isWholeUnder limits (trailer total)) bs ≡ m → AlikeIn (trailer total) bs
+    trailer-alike : (s : Show) (p : Past) (total : ℕ) (bs : List ℕ) (m : Cut) → cut (isWholeUnder limits (trailer s p total)) bs ≡ m
+        → AlikeIn (trailer s p total) bs
     unfolding rules isWhole isWholeUnder isWholeTrailer judge judgeWith judgeTrailer isTrailer
-    trailer-alike total bs uncut e = neither e (none-cut _ _ bs (limit-less endsTrailer (limits .bytes) headLimit bytes) e)
-    trailer-alike total bs (cutAt f r) e = by (endsTrailer f) refl
+    trailer-alike s p total bs uncut e = neither e (none-cut _ _ bs (limit-less endsTrailer (limits .bytes) headLimit bytes) e)
+    trailer-alike s p total bs (cutAt f r) e = by (endsTrailer f) refl
       where
-        by : (ended : Bool) → endsTrailer f ≡ ended → AlikeIn (trailer total) bs
+        by : (ended : Bool) → endsTrailer f ≡ ended → AlikeIn (trailer s p total) bs
         by false x =
             let place : trailerPlace f ≡ limits .bytes = unended-places f .2 x ∙ cut-long endsTrailer (limits .bytes) bs f r some e x in
-            refuses f r 6 (trailerPlace f) e (unended-trailer total f x) (eq-eqb (trailerPlace f) (limits .bytes) place)
+            stops f r (refused 6 (trailerPlace f)) e (unended-trailer s p total f x) (eq-eqb (trailerPlace f) (limits .bytes) place)
         by true x = alike f r e (same-cut _ bs f r e _ (limit-less endsTrailer (limits .bytes) headLimit bytes) (rw x)) refl
 
     each-alike : (c : Context) (bs : List ℕ) → AlikeIn c bs
@@ -142,7 +144,7 @@ module _ (limits : SectionLimits) (terms : Terms) where
     each-alike (blockData s p n) bs = here (isLifted limits) (blockData s p n) bs _ refl refl (λ l. refl)
     each-alike (dataEnd s p b) bs = here (isLifted limits) (dataEnd s p b) bs _ refl refl (λ l. refl)
     each-alike (nextLine s p b) bs = here (isLifted limits) (nextLine s p b) bs _ refl refl (λ l. refl)
-    each-alike (trailer total) bs = trailer-alike total bs _ refl
+    each-alike (trailer s p total) bs = trailer-alike s p total bs _ refl
 
     -- THE EVENTS ARE KEPT up to a refusal by a limit
     pub further-now : (stream : List ℕ) (answers : List Bool) (told : Bool)
@@ -154,8 +156,10 @@ module _ (limits : SectionLimits) (terms : Terms) where
 
 -- neither refusal that a limit gives is there
 none-lifted : (limits : SectionLimits) (log : StreamLog) → NeverRefused 3 log → NeverRefusedAt 6 (limits .bytes) log
-    → (n place at : ℕ) → isLifted limits n place ≡ true → Stands (at, last (refused n place)) log → ⊥
-none-lifted limits log three six n place at t s = by (eqb n 3) refl (eqb n 6) refl (eqb place (limits .bytes)) refl t
+    → (word : LastWord) (at : ℕ) → isLifted limits word ≡ true → Stands (at, last word) log → ⊥
+none-lifted limits log three six (closed total) at t s = true≢false (sym t)
+none-lifted limits log three six (complete total) at t s = true≢false (sym t)
+none-lifted limits log three six (refused n place) at t s = by (eqb n 3) refl (eqb n 6) refl (eqb place (limits .bytes)) refl t
   where
     by : (a : Bool) → eqb n 3 ≡ a → (b : Bool) → eqb n 6 ≡ b → (c : Bool) → eqb place (limits .bytes) ≡ c → (a || (b && c)) ≡ true → ⊥
     by true e b f c g t = three at place (rw (eqb-true n 3 e) at s)
@@ -167,21 +171,12 @@ none-lifted limits log three six n place at t s = by (eqb n 3) refl (eqb n 6) re
 same-unless : (limits : SectionLimits) (before now : StreamLog) → NeverRefused 3 before → NeverRefusedAt 6 (limits .bytes) before
     → Further (isLifted limits) before now → now ≡ before
 same-unless limits before now three six (same e) = e
-same-unless limits before now three six (onward front at n place t e b) =
-    absurd (none-lifted limits before three six n place at t (record { before = front; after = []; joined = sym e }))
+same-unless limits before now three six (onward front at word t e b) =
+    absurd (none-lifted limits before three six word at t (record { before = front; after = []; joined = sym e }))
 
 pub same-under : SameUnder
 same-under limits some bytes fields terms stream answers told three six =
     same-unless limits _ _ three six (further-now limits terms some bytes fields stream answers told)
-
-all-but-last : (before : StreamLog) (x : ℕ × Event Question Release LastWord) → take (length (before ++ x ∷ []) - 1) (before ++ x ∷ []) ≡ before
-all-but-last before x =
-    let n : length (before ++ x ∷ []) - 1 ≡ length before = omega (arith, length-append before (x ∷ [])) in
-    rw n (take-append-seam before (x ∷ []))
-
-begins-with : (lifted : ℕ → ℕ → Bool) (before now : StreamLog) → Further lifted before now → Begins (take (length before - 1) before) now
-begins-with lifted before now (same e) = record { rest = drop (length before - 1) before; joined = take-append-drop (length before - 1) before ∙ sym e }
-begins-with lifted before now (onward front at n place t e b) = rw (e, all-but-last front (at, last (refused n place))) b
 
 pub none-lost : NoneLost
 none-lost limits some bytes fields terms stream answers told =
@@ -191,17 +186,17 @@ none-lost limits some bytes fields terms stream answers told =
 pub under-these : UnderThese
 unfolding plainReading readingUnder rules isWhole isWholeUnder isWholeHead isWholeTrailer judge judgeWith judgeHead judgeHeadUnder headFault faultUnder textRulesUnder textRules
 under-these terms stream answers told =
-    by (reading-further (λ n place. false) (rulesUnder theseLimits terms) (rules terms) refl refl each head stream answers told)
+    by (reading-further (λ word. false) (rulesUnder theseLimits terms) (rules terms) refl refl each head stream answers told)
   where
-    each : (c : Context) (bs : List ℕ) → Alike (λ n place. false) (rulesUnder theseLimits terms) (rules terms) c bs
-    each head bs = here theseLimits terms (λ n place. false) head bs _ refl refl (λ l. refl)
-    each (firstLine s) bs = here theseLimits terms (λ n place. false) (firstLine s) bs _ refl refl (λ l. refl)
-    each (blockData s p n) bs = here theseLimits terms (λ n place. false) (blockData s p n) bs _ refl refl (λ l. refl)
-    each (dataEnd s p b) bs = here theseLimits terms (λ n place. false) (dataEnd s p b) bs _ refl refl (λ l. refl)
-    each (nextLine s p b) bs = here theseLimits terms (λ n place. false) (nextLine s p b) bs _ refl refl (λ l. refl)
-    each (trailer total) bs = here theseLimits terms (λ n place. false) (trailer total) bs _ refl refl (λ l. refl)
+    each : (c : Context) (bs : List ℕ) → Alike (λ word. false) (rulesUnder theseLimits terms) (rules terms) c bs
+    each head bs = here theseLimits terms (λ word. false) head bs _ refl refl (λ l. refl)
+    each (firstLine s) bs = here theseLimits terms (λ word. false) (firstLine s) bs _ refl refl (λ l. refl)
+    each (blockData s p n) bs = here theseLimits terms (λ word. false) (blockData s p n) bs _ refl refl (λ l. refl)
+    each (dataEnd s p b) bs = here theseLimits terms (λ word. false) (dataEnd s p b) bs _ refl refl (λ l. refl)
+    each (nextLine s p b) bs = here theseLimits terms (λ word. false) (nextLine s p b) bs _ refl refl (λ l. refl)
+    each (trailer s p total) bs = here theseLimits terms (λ word. false) (trailer s p total) bs _ refl refl (λ l. refl)
 
-    by : Further (λ n place. false) (readingUnder theseLimits terms stream answers told) (plainReading terms stream answers told)
+    by : Further (λ word. false) (readingUnder theseLimits terms stream answers told) (plainReading terms stream answers told)
         → readingUnder theseLimits terms stream answers told ≡ plainReading terms stream answers told
     by (same e) = sym e
-    by (onward before at n place t e b) = absurd (true≢false (sym t))
+    by (onward before at word t e b) = absurd (true≢false (sym t))

@@ -1,21 +1,24 @@
 -- What a request leaves as it was, and what it puts in the place of the rest. Assumes nothing.
 use mathlib.Core.Bool.{Bool, true, false}
-use mathlib.Core.List.{List, [], _∷_}
+use mathlib.Core.List.{List, [], _∷_, _++_}
 use mathlib.Core.Path.{_≡_}
 use Prim.Native.Nat.{ℕ, _-_, _≤_, _<_}
 use lib.Dec.{eqb}
 use lib.ListN.{length, take}
 use Rattle.sections.specs.Reading.{question, message, last, Log}
 use Rattle.sections.specs.Resuming.{Begins}
-use Rattle.stream.specs.Events.{Question, Release, LastWord, closed, refused}
+use Rattle.stream.specs.Events.{Question, Release, LastWord, closed, complete, refused}
 use Rattle.stream.specs.Limits.{headLimit, fieldLimit}
 use Rattle.stream.specs.Stream.{plainReading}
 use Rattle.stream.specs.Terms.{Terms}
 use Rattle.exactness.specs.AskedFor.{uriOf}
+use Rattle.exactness.specs.Beginning.{Beginning, written, headIn, announces}
+use Rattle.exactness.specs.Good.{Good, GoodTrailer, claims}
 use Rattle.exactness.specs.Telling.{StreamEvent, Stands}
 use Rattle.kept.specs.Older.{olderReading}
 use Rattle.kept.specs.OtherLimits.{SectionLimits, theseLimits, readingUnder}
 use Rattle.kept.specs.Unasked.{unaskedReading}
+use Rattle.kept.specs.Unchecked.{uncheckedReading}
 
 -- the reading does not end in that refusal, at whatever place
 abbrev pub NeverRefused : ℕ → Log Question Release LastWord → Type 0
@@ -44,6 +47,7 @@ abbrev pub isOfGoodText : StreamEvent → Bool
 isOfGoodText (question q) = true
 isOfGoodText (message e) = false
 isOfGoodText (last (closed total)) = false
+isOfGoodText (last (complete total)) = false
 isOfGoodText (last (refused n place)) = eqb n 12
 
 -- by the first event: a head of good text is refused with 16 instead, at the same byte, and nothing follows; any other reading stays
@@ -79,4 +83,32 @@ NoneLost =
     (limits : SectionLimits) → 0 < limits .bytes → limits .bytes ≤ headLimit → limits .fields ≤ fieldLimit
     → (terms : Terms) (stream : List ℕ) (answers : List Bool) (told : Bool)
     → Begins (take (length (readingUnder limits terms stream answers told) - 1) (readingUnder limits terms stream answers told))
+    (plainReading terms stream answers told)
+
+-- ---- request #101
+
+-- the reading does not end in *closed*
+abbrev pub NeverClosed : Log Question Release LastWord → Type 0
+NeverClosed log = (place total : ℕ) → Stands (place, last (closed total)) log → ⊥
+
+-- What did not close before, a stream that breaks off or is refused above all, gives the same events: the end of a show is checked only where
+-- the framing ended well.
+abbrev pub SameUnclosed : Type 0
+SameUnclosed =
+    (terms : Terms) (stream : List ℕ) (answers : List Bool) (told : Bool) → NeverClosed (uncheckedReading terms stream answers told)
+    → plainReading terms stream answers told ≡ uncheckedReading terms stream answers told
+
+-- "none of the three, *closed* as today": a good beginning and a good trailer, with none of the three fields in head and trailer, give the same
+-- events, whatever comes after them and whatever the answers are.
+abbrev pub SameUnclaimed : Type 0
+SameUnclaimed =
+    (terms : Terms) (w : Beginning) (t rest : List ℕ) → Good terms w → announces w ≡ 0 → GoodTrailer t → claims (headIn w) t ≡ false
+    → (answers : List Bool) (told : Bool)
+    → plainReading terms (written w ++ (t ++ rest)) answers told ≡ uncheckedReading terms (written w ++ (t ++ rest)) answers told
+
+-- And of any stream, all events of before but the last one are the first events of now: nothing that was released is lost.
+abbrev pub NoneLostUnchecked : Type 0
+NoneLostUnchecked =
+    (terms : Terms) (stream : List ℕ) (answers : List Bool) (told : Bool)
+    → Begins (take (length (uncheckedReading terms stream answers told) - 1) (uncheckedReading terms stream answers told))
     (plainReading terms stream answers told)

@@ -2,4 +2,5 @@ pub mod OtherHeads
 pub mod Older
 pub mod Unasked
 pub mod OtherLimits
+pub mod Unchecked
 pub mod Kept

@@ -14,7 +14,7 @@ judgeWith judgeHead (firstLine s) l = judgeFirstLine s l
 judgeWith judgeHead (blockData s p n) l = go (dataEnd s p l)
 judgeWith judgeHead (dataEnd s p b) l = judgeDataEnd s p b l
 judgeWith judgeHead (nextLine s p b) l = judgeNextLine s p b l
-judgeWith judgeHead (trailer total) l = judgeTrailer total l
+judgeWith judgeHead (trailer s p total) l = judgeTrailer s p total l
 
 abbrev pub rulesWith : (List ℕ → Says) → Rules Context Question Release LastWord
 rulesWith judgeHead = record { whole = isWhole; judge = judgeWith judgeHead; denied = refused 10 0; unfinished = refused 11 0 }

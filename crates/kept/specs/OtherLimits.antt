@@ -35,7 +35,7 @@ isWholeUnder limits (firstLine s) l = isWhole (firstLine s) l
 isWholeUnder limits (blockData s p n) l = isWhole (blockData s p n) l
 isWholeUnder limits (dataEnd s p b) l = isWhole (dataEnd s p b) l
 isWholeUnder limits (nextLine s p b) l = isWhole (nextLine s p b) l
-isWholeUnder limits (trailer total) l = endsTrailer l || leb (limits .bytes) (length l)
+isWholeUnder limits (trailer s p total) l = endsTrailer l || leb (limits .bytes) (length l)
 
 -- the fourth rule is about the number of fields
 unfoldable pub textRulesUnder : SectionLimits → List ℕ → Head → List Rule

@@ -1,11 +1,15 @@
 -- Laws on the state as bytes: its parts are written one after the other, and reading gives back what was written. Assumes nothing.
 use mathlib.Core.Bool.{Bool, true, false}
 use mathlib.Core.Path.{_≡_, refl, sym, ap, _∙_}
-use mathlib.Core.List.{List, [], _∷_, _++_, append-assoc, append-nil}
+use mathlib.Core.List.{List, [], _∷_, _++_, map, append-assoc, append-nil}
 use Prim.Native.Nat.{ℕ, _+_, _%_, _^_, _≤_, _<_}
 use native.Mathlib.Omega.{arith}
 use borrow.Author.Tests.{le-leb}
+use denote.Array.{each}
+use denote.Builtin.{u32}
 use denote.Laws.{Is}
+use denote.Shadow.{shadow}
+use denote.Struct.Field.{u32-field}
 use mir.Val.{Val}
 use lib.Dec.{leb}
 use lib.ListN.{length, drop, length-map}
@@ -18,8 +22,9 @@ use Rattle.state.specs.declared.reader.Fixed.{Fixed}
 use Rattle.state.specs.declared.reader.Reader.{Reader}
 use Rattle.state.proofs.reader.Reader as declared
 use Rattle.packing.specs.Parts.{littleEndian, allBytes, numberAt}
-use Rattle.layout.specs.State.{stateSize, tagOf, firstOf, secondOf, refusalOf, phaseOf, phaseBytes, fixedBytes, chainBytes, encoded, stored, fixedIn, chainIn, decoded}
-use Rattle.packing.proofs.PartLaws.{sets-next, long-next, long-bytes, long-all, concat, At, past, part-there, number-there}
+use Rattle.layout.specs.State.{stateSize, tagOf, firstOf, secondOf, refusalOf, phaseOf, phaseBytes, fixedBytes, chainBytes, bodyBytes, encoded, stored, fixedIn, chainIn, decoded}
+use Rattle.packing.proofs.PartLaws.{sets-next, long-next, long-bytes, long-all, concat, At, past, part-there, number-there, Words, none, more}
+use Rattle.layout.proofs.BodyLaws.{SoundBody, long-body, body-back}
 
 -- ---- what the head fixed
 
@@ -85,8 +90,9 @@ module _ (c : Chain) where
 pub record SoundChain (c : Chain) : Type 0 where
   pub number : c .number .0 < 2 ^ 64
   pub hash : length (c .hash) ≡ 64
+  pub body : SoundBody (c .body)
 
-module _ {whole : List ℕ} {ss : List (List ℕ)} (c : Chain) (s : SoundChain c) (e : At whole 128 (chainBytes c ∷ ss)) where
+module _ {whole : List ℕ} {ss ts : List (List ℕ)} (c : Chain) (s : SoundChain c) (e : At whole 128 (chainBytes c ∷ ss)) (f : At whole 336 (bodyBytes (c .body) ∷ ts)) where
   chain-parts : At whole 128 (littleEndian 8 (c .number .0) ∷ c .hash ∷ ss)
   unfolding concat
   chain-parts = record { there = e .there ∙ (simp append-assoc) }
@@ -95,7 +101,7 @@ module _ {whole : List ℕ} {ss : List (List ℕ)} (c : Chain) (s : SoundChain c
   unfolding chainIn
   chain-back =
       let a = past chain-parts 8 (long-bytes 8 _) in
-      rw (number-there (c .number .0) chain-parts (s .number), part-there a 64 (s .hash))
+      rw (number-there (c .number .0) chain-parts (s .number), part-there a 64 (s .hash), body-back (c .body) (s .body) f)
 
 -- ---- the phase
 
@@ -113,7 +119,9 @@ tag-small (P.DataEnd have size) = omega arith
 tag-small (P.NextLine have size) = omega arith
 tag-small (P.BlockAsked size next) = omega arith
 tag-small (P.Trailer have total) = omega arith
+tag-small (P.EndAsked have total) = omega arith
 tag-small (P.Closed total) = omega arith
+tag-small (P.Complete total) = omega arith
 tag-small (P.Refused n) = omega arith
 
 phase-back : (p : Phase) → InRange p → phaseOf (tagOf p) (firstOf p) (secondOf p) ≡ p
@@ -126,7 +134,9 @@ phase-back (P.DataEnd have size) h = refl
 phase-back (P.NextLine have size) h = refl
 phase-back (P.BlockAsked size next) h = refl
 phase-back (P.Trailer have total) h = refl
+phase-back (P.EndAsked have total) h = refl
 phase-back (P.Closed total) h = refl
+phase-back (P.Complete total) h = refl
 phase-back (P.Refused n) h = let e : n % 256 ≡ n = omega (arith, h .refusal) in rw e
 
 module _ {whole : List ℕ} {ss : List (List ℕ)} (p : Phase) (s : InRange p) (e : At whole 0 (phaseBytes p ∷ ss)) where
@@ -142,7 +152,7 @@ module _ {whole : List ℕ} {ss : List (List ℕ)} (p : Phase) (s : InRange p) (
 
 -- ---- the whole state
 
--- up to what the head fixed, through the chain, and through the line
+-- up to what the head fixed, through the chain's number and hash, and through the line
 abbrev withFixed : Reader → List ℕ
 withFixed r = phaseBytes (r .phase) ++ fixedBytes (r .fixed)
 
@@ -151,6 +161,10 @@ withChain r = withFixed r ++ chainBytes (r .chain)
 
 abbrev withLine : Reader → List ℕ
 withLine r = withChain r ++ r .line
+
+-- all but the body
+abbrev withReleased : Reader → List ℕ
+withReleased r = withLine r ++ littleEndian 8 (r .released)
 
 module _ (r : Reader) (id : length (r .fixed .id) ≡ 64) (hash : length (r .chain .hash) ≡ 64) (line : length (r .line) ≡ 128) where
   long-phase : length (phaseBytes (r .phase)) ≡ 24
@@ -165,17 +179,21 @@ module _ (r : Reader) (id : length (r .fixed .id) ≡ 64) (hash : length (r .cha
   long-line : length (withLine r) ≡ 328
   long-line = long-next (withChain r) (r .line) 200 128 328 long-to-line line refl
 
-  pub long-encoded : length (encoded r) ≡ stateSize
-  unfolding encoded
-  long-encoded = long-next (withLine r) (littleEndian 8 (r .released)) 328 8 336 long-line (long-bytes 8 (r .released)) refl
+  long-released : length (withReleased r) ≡ 336
+  long-released = long-next (withLine r) (littleEndian 8 (r .released)) 328 8 336 long-line (long-bytes 8 (r .released)) refl
 
-  pub all-put : (d l₁ l₂ l₃ l₄ l₅ : List ℕ) → l₁ ≡ sets d 0 (phaseBytes (r .phase)) → l₂ ≡ sets l₁ 24 (fixedBytes (r .fixed)) → l₃ ≡ sets l₂ 128 (chainBytes (r .chain)) → l₄ ≡ sets l₃ 200 (r .line) → l₅ ≡ sets l₄ 328 (littleEndian 8 (r .released)) → l₅ ≡ sets d 0 (encoded r)
+  pub long-encoded : SoundBody (r .chain .body) → length (encoded r) ≡ stateSize
   unfolding encoded
-  all-put d l₁ l₂ l₃ l₄ l₅ e₁ e₂ e₃ e₄ e₅ =
+  long-encoded s = long-next (withReleased r) (bodyBytes (r .chain .body)) 336 136 472 long-released (long-body (r .chain .body) s) refl
+
+  pub all-put : (d l₁ l₂ l₃ l₄ l₅ l₆ : List ℕ) → l₁ ≡ sets d 0 (phaseBytes (r .phase)) → l₂ ≡ sets l₁ 24 (fixedBytes (r .fixed)) → l₃ ≡ sets l₂ 128 (chainBytes (r .chain)) → l₄ ≡ sets l₃ 200 (r .line) → l₅ ≡ sets l₄ 328 (littleEndian 8 (r .released)) → l₆ ≡ sets l₅ 336 (bodyBytes (r .chain .body)) → l₆ ≡ sets d 0 (encoded r)
+  unfolding encoded
+  all-put d l₁ l₂ l₃ l₄ l₅ l₆ e₁ e₂ e₃ e₄ e₅ e₆ =
       let p₂ = sets-next d l₁ l₂ (phaseBytes (r .phase)) (fixedBytes (r .fixed)) 0 24 24 e₁ long-phase refl e₂ in
       let p₃ = sets-next d l₂ l₃ (withFixed r) (chainBytes (r .chain)) 0 128 128 p₂ long-to-chain refl e₃ in
       let p₄ = sets-next d l₃ l₄ (withChain r) (r .line) 0 200 200 p₃ long-to-line refl e₄ in
-      sets-next d l₄ l₅ (withLine r) (littleEndian 8 (r .released)) 0 328 328 p₄ long-line refl e₅
+      let p₅ = sets-next d l₄ l₅ (withLine r) (littleEndian 8 (r .released)) 0 328 328 p₄ long-line refl e₅ in
+      sets-next d l₅ l₆ (withReleased r) (bodyBytes (r .chain .body)) 0 336 336 p₅ long-released refl e₆
 
 pub record Sound (r : Reader) : Type 0 where
   pub phase : InRange (r .phase)
@@ -185,13 +203,13 @@ pub record Sound (r : Reader) : Type 0 where
   pub released : r .released < 2 ^ 64
 
 module _ (r : Reader) where
-  in-parts : (rest : List ℕ) → At (encoded r ++ rest) 0 (phaseBytes (r .phase) ∷ fixedBytes (r .fixed) ∷ chainBytes (r .chain) ∷ r .line ∷ littleEndian 8 (r .released) ∷ rest ∷ [])
+  in-parts : (rest : List ℕ) → At (encoded r ++ rest) 0 (phaseBytes (r .phase) ∷ fixedBytes (r .fixed) ∷ chainBytes (r .chain) ∷ r .line ∷ littleEndian 8 (r .released) ∷ bodyBytes (r .chain .body) ∷ rest ∷ [])
   unfolding encoded concat
   in-parts rest = record { there = simp (append-assoc, append-nil) }
 
   module _ (s : Sound r) where
     long : length (encoded r) ≡ stateSize
-    long = long-encoded r (s .fixed .id) (s .chain .hash) (s .line)
+    long = long-encoded r (s .fixed .id) (s .chain .hash) (s .line) (s .chain .body)
 
     -- what was written is read, whatever follows it
     pub decoded-encoded : (rest : List ℕ) → decoded (encoded r ++ rest) ≡ r
@@ -202,10 +220,11 @@ module _ (r : Reader) where
         let a₂ = past a₁ 104 (long-fixed (r .fixed) (s .fixed .id)) in
         let a₃ = past a₂ 72 (long-chain (r .chain) (s .chain .hash)) in
         let a₄ = past a₃ 128 (s .line) in
+        let a₅ = past a₄ 8 (long-bytes 8 (r .released)) in
         rw (
           phase-read (r .phase) (s .phase) a₀,
           fixed-back (r .fixed) (s .fixed) a₁,
-          chain-back (r .chain) (s .chain) a₂,
+          chain-back (r .chain) (s .chain) a₂ a₅,
           part-there a₃ 128 (s .line),
           number-there (r .released) a₄ (s .released),
         )
@@ -244,11 +263,18 @@ stored-stored r s n t d h =
 
 -- ---- a value in the code is sound: its numbers and arrays by what owning it gives, `c .good` of a parameter
 
+-- each word of an array, which a struct's field holds as it is
+words-of : (ws : List ℕ) (us : List Val) → shadow (each ℕ (u32 .own) (map (u32-field .into) ws) us) → Words ws
+words-of [] us is = none
+words-of (w ∷ ws) [] is = absurd is
+words-of (w ∷ ws) (u ∷ us) is = more (is .0 .1) (words-of ws us (is .1))
+
 pub sound : (r : Reader) (vs : List Val) → Is declared.the-row r vs → InRange (r .phase) → Sound r
 sound r vs is p =
     let f = is .1 .1 in
     let g = f .1 .0 .1 .1 in
     let c = f .1 .1 .0 .1 .1 in
+    let h = c .1 .1 .0 .1 .1 in
     record {
       phase = p;
       fixed =
@@ -260,7 +286,18 @@ sound r vs is p =
             id = simp length-map at (g .1 .1 .1 .1 .0 .1 .0 .1);
             count = g .1 .1 .1 .1 .1 .0 .1;
           };
-      chain = record { number = c .0 .1 .1 .0 .1; hash = simp length-map at (c .1 .0 .1 .0 .1) };
+      chain =
+          record {
+            number = c .0 .1 .1 .0 .1;
+            hash = simp length-map at (c .1 .0 .1 .0 .1);
+            body =
+                record {
+                  words = simp length-map at (h .0 .1 .0 .1);
+                  small = words-of (r .chain .body .words) _ (h .0 .1 .1);
+                  rest = simp length-map at (h .1 .0 .1 .0 .1);
+                  count = h .1 .1 .0 .1;
+                };
+          };
       line = simp length-map at (f .1 .1 .1 .0 .1 .0 .1);
       released = f .1 .1 .1 .1 .0 .1;
     }

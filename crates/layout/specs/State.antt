@@ -5,17 +5,18 @@ use lib.Dec.{eqb, leb}
 use lib.ListN.{length}
 use lib.Seq.{sets}
 use Rattle.octets.specs.Choice.{pick}
+use Rattle.sha256.specs.declared.Midstate.{Midstate}
 use Rattle.stream.specs.Limits.{idLimit, lineLimit}
 use Rattle.state.specs.declared.phase.Phase.{Phase}
 use Rattle.state.specs.declared.phase.Phase.the-variants as P
 use Rattle.state.specs.declared.reader.Chain.{Chain}
 use Rattle.state.specs.declared.reader.Fixed.{Fixed}
 use Rattle.state.specs.declared.reader.Reader.{Reader}
-use Rattle.packing.specs.Parts.{littleEndian, allBytes, part, numberAt}
+use Rattle.packing.specs.Parts.{littleEndian, allBytes, part, numberAt, wordsAt}
 
 -- how many bytes a state takes
 abbrev pub stateSize : ℕ
-stateSize = 336
+stateSize = 472
 
 -- ---- a phase as three numbers
 
@@ -28,7 +29,9 @@ tagOf (P.DataEnd have size) = 4
 tagOf (P.NextLine have size) = 5
 tagOf (P.BlockAsked size next) = 6
 tagOf (P.Trailer have total) = 7
+tagOf (P.EndAsked have total) = 10
 tagOf (P.Closed total) = 8
+tagOf (P.Complete total) = 11
 tagOf (P.Refused n) = 9
 
 abbrev pub firstOf : Phase → ℕ
@@ -40,7 +43,9 @@ firstOf (P.DataEnd have size) = have
 firstOf (P.NextLine have size) = have
 firstOf (P.BlockAsked size next) = size
 firstOf (P.Trailer have total) = have
+firstOf (P.EndAsked have total) = have
 firstOf (P.Closed total) = total
+firstOf (P.Complete total) = total
 firstOf (P.Refused n) = n
 
 abbrev pub secondOf : Phase → ℕ
@@ -52,7 +57,9 @@ secondOf (P.DataEnd have size) = size
 secondOf (P.NextLine have size) = size
 secondOf (P.BlockAsked size next) = next
 secondOf (P.Trailer have total) = total
+secondOf (P.EndAsked have total) = total
 secondOf (P.Closed total) = 0
+secondOf (P.Complete total) = 0
 secondOf (P.Refused n) = 0
 
 -- the number of a refusal, 0 where there is none
@@ -65,7 +72,9 @@ refusalOf (P.DataEnd have size) = 0
 refusalOf (P.NextLine have size) = 0
 refusalOf (P.BlockAsked size next) = 0
 refusalOf (P.Trailer have total) = 0
+refusalOf (P.EndAsked have total) = 0
 refusalOf (P.Closed total) = 0
+refusalOf (P.Complete total) = 0
 refusalOf (P.Refused n) = n
 
 -- the number of a refusal is one byte: of a larger one the lowest byte counts; any other tag is a refusal
@@ -80,7 +89,9 @@ phaseOf tag a b =
     (pick (eqb tag 6) (P.BlockAsked a b)
     (pick (eqb tag 7) (P.Trailer a b)
     (pick (eqb tag 8) (P.Closed a)
-    (pick (eqb tag 9) (P.Refused (a % 256)) (P.Refused 0))))))))))
+    (pick (eqb tag 9) (P.Refused (a % 256))
+    (pick (eqb tag 10) (P.EndAsked a b)
+    (pick (eqb tag 11) (P.Complete a) (P.Refused 0))))))))))))
 
 -- ---- the whole state
 
@@ -96,9 +107,15 @@ fixedBytes f = allBytes (f .accepted ∷ f .status ∷ f .«block_size» ∷ f .
 abbrev pub chainBytes : Chain → List ℕ
 chainBytes c = littleEndian 8 (c .number .0) ++ c .hash
 
--- one after the other, and what is released
+-- the body so far, as SHA-256 has it under way: its words, the bytes that wait, and how many have come
+abbrev pub bodyBytes : Midstate → List ℕ
+bodyBytes h = allBytes (h .words) ++ h .rest ++ littleEndian 8 (h .count)
+
+-- one after the other, what is released, and the body, which came last (request #101) and moved nothing
 unfoldable pub encoded : Reader → List ℕ
-encoded r = phaseBytes (r .phase) ++ fixedBytes (r .fixed) ++ chainBytes (r .chain) ++ r .line ++ littleEndian 8 (r .released)
+encoded r =
+    phaseBytes (r .phase) ++ fixedBytes (r .fixed) ++ chainBytes (r .chain) ++ r .line ++ littleEndian 8 (r .released)
+    ++ bodyBytes (r .chain .body)
 
 -- written over the front of a buffer; one that is too short is left as it is
 unfoldable pub stored : Reader → List ℕ → List ℕ
@@ -116,8 +133,11 @@ fixedIn l =
       «id_length» = numberAt l 120;
     }
 
+unfoldable pub bodyIn : List ℕ → Midstate
+bodyIn l = record { words = wordsAt l 336 8; rest = part l 400 64; count = numberAt l 464 }
+
 unfoldable pub chainIn : List ℕ → Chain
-chainIn l = record { number = record { 0 = numberAt l 128 }; hash = part l 136 64 }
+chainIn l = record { number = record { 0 = numberAt l 128 }; hash = part l 136 64; body = bodyIn l }
 
 unfoldable pub decoded : List ℕ → Reader
 decoded l =

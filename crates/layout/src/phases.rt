@@ -17,7 +17,9 @@ pub(crate) fn tag(p: Phase) -> u64
         Phase::NextLine { have: _, size: _ } => 5,
         Phase::BlockAsked { size: _, next: _ } => 6,
         Phase::Trailer { have: _, total: _ } => 7,
+        Phase::EndAsked { have: _, total: _ } => 10,
         Phase::Closed(_) => 8,
+        Phase::Complete(_) => 11,
         Phase::Refused(_) => 9,
     }
 }
@@ -35,7 +37,9 @@ pub(crate) fn first(p: Phase) -> u64
         Phase::NextLine { have, size: _ } => have as u64,
         Phase::BlockAsked { size, next: _ } => size as u64,
         Phase::Trailer { have, total: _ } => have as u64,
+        Phase::EndAsked { have, total: _ } => have as u64,
         Phase::Closed(total) => total,
+        Phase::Complete(total) => total,
         Phase::Refused(n) => n as u64,
     }
 }
@@ -52,7 +56,9 @@ pub(crate) fn second(p: Phase) -> u64
         Phase::NextLine { have: _, size } => size as u64,
         Phase::BlockAsked { size: _, next } => next as u64,
         Phase::Trailer { have: _, total } => total,
+        Phase::EndAsked { have: _, total } => total,
         Phase::Closed(_) => 0,
+        Phase::Complete(_) => 0,
         Phase::Refused(_) => 0,
     }
 }
@@ -74,6 +80,8 @@ pub(crate) fn phase(tag: u64, a: u64, b: u64) -> Phase
         7 => Phase::Trailer { have: n, total: b },
         8 => Phase::Closed(a),
         9 => Phase::Refused((a % 256) as u8),
+        10 => Phase::EndAsked { have: n, total: b },
+        11 => Phase::Complete(a),
         _ => Phase::Refused(0),
     }
 }

@@ -11,6 +11,9 @@ use packing::put_64;
 use packing::put_128;
 use packing::put_number;
 use packing::put_numbers;
+use packing::put_words;
+use packing::words_at;
+use sha256::Midstate;
 use state::Chain;
 use state::Fixed;
 use state::Phase;
@@ -20,10 +23,10 @@ ghost use Prim.Native.Nat.{_≤_};
 ghost use lib.ListN.{length};
 ghost use lib.Seq.{sets};
 ghost use Rattle.packing.specs.Parts.{numberAt};
-ghost use Rattle.layout.specs.State.{stateSize, phaseOf, fixedBytes, chainBytes, encoded, stored, fixedIn, chainIn, decoded};
+ghost use Rattle.layout.specs.State.{stateSize, phaseOf, fixedBytes, chainBytes, bodyBytes, encoded, stored, fixedIn, bodyIn, chainIn, decoded};
 
 // How many bytes a state takes.
-pub const STATE_SIZE: usize = 336;
+pub const STATE_SIZE: usize = 472;
 
 fn phase_at(state: &[u8]) -> Phase
     ensures { λ r. ⌜ r ≡ phaseOf (numberAt (now (state .entry)) 0) (numberAt (now (state .entry)) 8) (numberAt (now (state .entry)) 16) ⌝ }
@@ -48,12 +51,23 @@ fn fixed_at(state: &[u8]) -> Fixed
     }
 }
 
+fn body_at(state: &[u8]) -> Midstate
+    ensures { λ h. ⌜ h ≡ bodyIn (now (state .entry)) ⌝ }
+{
+    Midstate {
+        words: words_at(state, 336),
+        rest: bytes_64(state, 400),
+        count: number_at(state, 464),
+    }
+}
+
 fn chain_at(state: &[u8]) -> Chain
     ensures { λ c. ⌜ c ≡ chainIn (now (state .entry)) ⌝ }
 {
     Chain {
         number: BlockNumber(number_at(state, 128)),
         hash: bytes_64(state, 136),
+        body: body_at(state),
     }
 }
 
@@ -70,7 +84,8 @@ pub fn load(state: &[u8]) -> Reader
     }
 }
 
-// What the head fixed, and the chain, each at its place. That an array has its length is said beside.
+// What the head fixed, the chain but for its body, and the body, each at its place. That an array has its length is said beside where
+// something stands behind the part.
 fn put_fixed(f: Fixed, state: &mut [u8])
     ensures { λ _. ⌜ (now (state .exit) ≡ sets (now (state .entry)) 24 (fixedBytes f)) × (length (f .id) ≡ 64) ⌝ }
 {
@@ -95,6 +110,16 @@ fn put_chain(c: Chain, state: &mut [u8])
     put_64(state, 136, hash);
 }
 
+fn put_body(h: Midstate, state: &mut [u8])
+    ensures { λ _. ⌜ now (state .exit) ≡ sets (now (state .entry)) 336 (bodyBytes h) ⌝ }
+{
+    let words = h.words;
+    let rest = h.rest;
+    put_words(state, 336, words);
+    put_64(state, 400, rest);
+    put_number(state, 464, h.count);
+}
+
 // All parts, one after the other. What is then read is the state.
 fn put_all(r: Reader, state: &mut [u8])
     requires { ⌜ stateSize ≤ length (now state) ⌝ }
@@ -103,12 +128,14 @@ fn put_all(r: Reader, state: &mut [u8])
     let p = r.phase;
     let fixed = r.fixed;
     let chain = r.chain;
+    let body = chain.body;
     let line = r.line;
     put_numbers(state, 0, &[tag(p), first(p), second(p)]);
     put_fixed(fixed, state);
     put_chain(chain, state);
     put_128(state, 200, line);
     put_number(state, 328, r.released as u64);
+    put_body(body, state);
 }
 
 // Writes the state over the front of the buffer. A buffer that is too short is left as it is. `whole` says every byte, and `back`

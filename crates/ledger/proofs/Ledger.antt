@@ -14,7 +14,8 @@ use Rattle.hash.specs.Sha512.{roundWords, sha512}
 use Rattle.sections.specs.Reading.{Event, question, message, last, Log, cut, sections, readingAt, reading}
 use Rattle.stream.specs.Blocks.{isWholeLine, carriesSignature, isChunkLine, chunkSize, lineSignature, lineRules, lineFault, chained, blockMessage}
 use Rattle.stream.specs.Bytes.{all, same, lowered, sameName}
-use Rattle.stream.specs.Events.{Question, Release, headAccepted, block, LastWord, closed, refused}
+use Rattle.stream.specs.Ends.{allFields, isClaimed}
+use Rattle.stream.specs.Events.{Question, Release, headAccepted, block, LastWord, closed, complete, refused}
 use Rattle.stream.specs.Fields.{among, isDoubled, isProtected, isProtectedDoubled, namesOf, hasField, valueOf, valuesOf}
 use Rattle.stream.specs.Head.{endsHead, isWholeHead, headWith, headOf, statusDigits, injectionId, injectionTime, blockSize, blockKey, headKey, listedNames, headSignature, signedOf, signingString, trustedBy, textRules, callerRules, headFault}
 use Rattle.stream.specs.Lines.{endsWith, lines, beforeEmpty, textLines, trimmed, fieldScan, isFieldLine, fieldOf, areFieldLines, fieldsOf, statusScan, isStatusLine, statusOf}
@@ -23,7 +24,7 @@ use Rattle.stream.specs.Ring.{Ring, fits, firstFrom, found}
 use Rattle.stream.specs.Rule.{firstBroken}
 use Rattle.stream.specs.Signatures.{injectionScan, isInjection, bsigsScan, isBsigs, sig0Scan, isSig0, splitNames, areFields, isNameList}
 use Rattle.stream.specs.Signing.{separated, signedFields, joinedFields, signingLine, signingText}
-use Rattle.stream.specs.Stream.{Show, firstLine, nextLine, trailer, isWhole, showOf, headQuestion, acceptHead, judgeHead, judgeFirstLine, judgeDataEnd, blockQuestion, acceptBlock, judgeNextLine, judgeTrailer, judge, rules, plainReading}
+use Rattle.stream.specs.Stream.{Show, nothing, firstLine, nextLine, trailer, isWhole, showOf, headQuestion, acceptHead, judgeHead, judgeFirstLine, judgeDataEnd, blockQuestion, acceptBlock, judgeNextLine, judgeEnd, judgeTrailer, judge, rules, plainReading}
 use Rattle.stream.specs.Template.{run, past, startsWith, scan}
 use Rattle.stream.specs.Terms.{Terms}
 use Rattle.stream.specs.Trailer.{endsTrailer, isWholeTrailer, isTrailer}
@@ -57,10 +58,11 @@ told (question q) = 1 ∷ length (q .message) ∷ q .keyNumber ∷ []
 told (message (headAccepted status signed)) = 2 ∷ status ∷ length signed ∷ []
 told (message (block offset bytes)) = 3 ∷ offset ∷ length bytes ∷ []
 told (last (closed total)) = 4 ∷ total ∷ []
+told (last (complete total)) = 6 ∷ total ∷ []
 told (last (refused n at)) = 5 ∷ n ∷ []
 
 -- each event after its place
-abbrev placed : Log Question Release LastWord → List ℕ
+abbrev pub placed : Log Question Release LastWord → List ℕ
 placed [] = []
 placed (x ∷ log) = x .0 ∷ told (x .1) ++ placed log
 
@@ -84,22 +86,22 @@ abbrev pub asLines : List (List ℕ) → List ℕ
 asLines [] = octets "\r\n"
 asLines (l ∷ ls) = l ++ (octets "\r\n" ++ asLines ls)
 
-abbrev keyIs : List ℕ → List ℕ
+abbrev pub keyIs : List ℕ → List ℕ
 keyIs k = octets "keyId=\"ed25519=" ++ (k ++ octets "\"")
 
-abbrev bsigs : List ℕ → List ℕ → List ℕ
+abbrev pub bsigs : List ℕ → List ℕ → List ℕ
 bsigs k rest = octets "X-Ouinet-BSigs: " ++ (keyIs k ++ rest)
 
-abbrev sig0 : List ℕ → List ℕ → List ℕ → List ℕ → List ℕ
+abbrev pub sig0 : List ℕ → List ℕ → List ℕ → List ℕ → List ℕ
 sig0 k middle names sig =
     octets "X-Ouinet-Sig0: "
     ++ (keyIs k ++ (middle ++ (octets "headers=\"" ++ (names ++ (octets "\",signature=\"" ++ (sig ++ octets "\""))))))
 
-abbrev middle : List ℕ
+abbrev pub middle : List ℕ
 middle = octets ",algorithm=\"hs2019\",created=1584748800, "
 
 -- the list as document 000 prints it, with capitals
-abbrev names : List ℕ
+abbrev pub names : List ℕ
 names = octets "(response-status) (created) x-Ouinet-version x-Ouinet-uri x-Ouinet-injection date content-type"
 
 abbrev pub headLines : List (List ℕ)
@@ -134,7 +136,7 @@ date = 4
 abbrev type : ℕ
 type = 5
 
-abbrev sig0s : ℕ
+abbrev pub sig0s : ℕ
 sig0s = 6
 
 abbrev bsigss : ℕ
@@ -143,7 +145,7 @@ bsigss = 7
 abbrev coding : ℕ
 coding = 8
 
-abbrev put : ℕ → List ℕ → List (List ℕ) → List (List ℕ)
+abbrev pub put : ℕ → List ℕ → List (List ℕ) → List (List ℕ)
 put k l ls = set ls k l
 
 abbrev without : ℕ → List (List ℕ) → List (List ℕ)
@@ -153,7 +155,7 @@ without k ls = take k ls ++ drop (suc k) ls
 abbrev asking : String → Terms
 asking s = record { ring = terms .ring; uri = octets s }
 
-abbrev trusting : Ring → Terms
+abbrev pub trusting : Ring → Terms
 trusting r = record { ring = r; uri = terms .uri }
 
 -- the refusal's number, 0 where the head is good
@@ -195,11 +197,11 @@ abbrev pub extraLines : List (List ℕ) → List (List ℕ)
 extraLines [] = []
 extraLines (n ∷ ns) = (n ++ octets ":") ∷ extraLines ns
 
-abbrev extraText : List (List ℕ) → List ℕ
+abbrev pub extraText : List (List ℕ) → List ℕ
 extraText [] = []
 extraText (n ∷ ns) = octets " " ++ (n ++ extraText ns)
 
-abbrev listing : ℕ → List (List ℕ)
+abbrev pub listing : ℕ → List (List ℕ)
 listing n =
     put sig0s (sig0 key middle (names ++ extraText (extraNames n)) signature) (headLines ++ extraLines (extraNames n))
 
@@ -207,7 +209,7 @@ listing n =
 abbrev ringSays : Ring → List ℕ
 ringSays r = headFault (trusting r) exampleHead ∷ headQuestion r (headOf exampleHead) .keyNumber ∷ []
 
-abbrev otherKey : List ℕ
+abbrev pub otherKey : List ℕ
 otherKey = 1 ∷ replicate 31 0
 
 -- ---- bodies: block size 5, and neither ring nor URI, since both are "read only when the head is judged"
@@ -216,7 +218,7 @@ abbrev pub noTerms : Terms
 noTerms = record { ring = []; uri = [] }
 
 abbrev pub show : Show
-show = record { id = octets "abc"; size = 5; keyNumber = 7 }
+show = record { id = octets "abc"; size = 5; keyNumber = 7; head = headOf [] }
 
 abbrev body : List Bool → Bool → List ℕ → List ℕ
 body answers end bytes = placed (reading (rules noTerms) (firstLine show) bytes answers end)
@@ -238,22 +240,17 @@ signed s = signedLine (octets s)
 -- a trailer by itself, of a body of 5 bytes
 abbrev trailers : List String → List ℕ
 trailers [] = []
-trailers (s ∷ ss) = placed (reading (rules noTerms) (trailer 5) (octets s) [] false) ++ trailers ss
+trailers (s ∷ ss) = placed (reading (rules noTerms) (trailer show nothing 5) (octets s) [] false) ++ trailers ss
 
 -- document 000's example, as it prints it, but for key and signatures
-abbrev documentHead : List ℕ
+abbrev pub documentHead : List ℕ
 documentHead = asLines (headLines ++ (octets "Trailer: Digest, X-Ouinet-Data-Size, X-Ouinet-Sig1") ∷ [])
 
-abbrev documentBody : List ℕ
+abbrev pub documentBody : List ℕ
 documentBody = hello ++ signed "5" ++ octets " worl\r\n" ++ signed "2" ++ octets "d!\r\n" ++ signed "0"
 
-abbrev documentTrailer : List ℕ
-documentTrailer =
-    octets "Digest: SHA-256=wFNeS+K3n/2TKRMFQ2v4iTFOSj+uwF7P/Lt98xrZ5Ro=\r\nX-Ouinet-Data-Size: 12\r\nX-Ouinet-Sig1: "
-    ++ (keyIs key ++ (middle ++ (octets "headers=\"" ++ (names ++ (octets " digest x-Ouinet-data-size\",signature=\"" ++ (signature ++ octets "\"\r\n\r\n"))))))
-
 -- hex digits as bytes, two to a byte
-abbrev hexBytes : List ℕ → List ℕ
+abbrev pub hexBytes : List ℕ → List ℕ
 hexBytes [] = []
 hexBytes (a ∷ []) = []
 hexBytes (a ∷ b ∷ l) = hexValue (a ∷ b ∷ []) ∷ hexBytes l
@@ -589,8 +586,8 @@ blockRules =
     (lineFault 65_536 true true 4_294_901_760 (signed "10000")
     ∷ lineFault 65_536 true true 4_294_901_761 (signed "10000")
     ∷ lineFault 65_536 true true 4_294_967_296 (signed "0")
-    ∷ placed (reading (rules noTerms) (nextLine show (record { blocks = 858_993_458; hash = replicate 64 1 }) (octets "Hello")) (signed "1") yes false)
-    ++ placed (reading (rules noTerms) (nextLine show (record { blocks = 858_993_458; hash = replicate 64 1 }) (octets "Hello")) (signed "2") yes false))
+    ∷ placed (reading (rules noTerms) (nextLine show (record { blocks = 858_993_458; hash = replicate 64 1; body = [] }) (octets "Hello")) (signed "1") yes false)
+    ++ placed (reading (rules noTerms) (nextLine show (record { blocks = 858_993_458; hash = replicate 64 1; body = [] }) (octets "Hello")) (signed "2") yes false))
     (0 ∷ 9 ∷ 0 ∷ 99 ∷ 1 ∷ 79 ∷ 7 ∷ 99 ∷ 3 ∷ 4_294_967_290 ∷ 5 ∷ 99 ∷ 5 ∷ 9 ∷ [])
     ∷ row 22 "sizes" (firstLines ("05" ∷ "00000000" ∷ "0000000a" ∷ "" ∷ "G" ∷ "5 " ∷ "\t5" ∷ "+5" ∷ "0x5" ∷ "5;" ∷ "5;x=y" ∷ "5;ouisig=" ∷ "123456789" ∷ "5\r" ∷ []))
     (0 ∷ 0 ∷ 7 ∷ 6 ∷ 6 ∷ 6 ∷ 6 ∷ 6 ∷ 6 ∷ 6 ∷ 6 ∷ 6 ∷ 6 ∷ 6 ∷ [])
@@ -628,12 +625,12 @@ blockRules =
     ++ octets "Hellod!")
     ∷ row 25 "an empty body asks nothing" (body [] false (octets "0\r\n\r\n") ++ body [] false (octets "00000000\r\nA: b\r\n\r\n") ++ body [] true (octets "0\r\n"))
     (5 ∷ 4 ∷ 0 ∷ 18 ∷ 4 ∷ 0 ∷ 3 ∷ 5 ∷ 11 ∷ [])
-    ∷ row 26 "document 000's example as it prints it, its list with capitals, its trailer with fields; *closed* has the total"
-    (placed (plainReading terms (documentHead ++ documentBody ++ documentTrailer) (true ∷ yes) true))
+    ∷ row 26 "document 000's example as it prints it, its list with capitals, up to its trailer; *closed* has the total"
+    (placed (plainReading terms (documentHead ++ documentBody ++ octets "\r\n") (true ∷ yes) true))
     ((705 ∷ 1 ∷ 219 ∷ 0 ∷ 705 ∷ 2 ∷ 200 ∷ 5 ∷ [])
     ++ (814 ∷ 1 ∷ 83 ∷ 0 ∷ 814 ∷ 3 ∷ 0 ∷ 5 ∷ [])
     ++ (920 ∷ 1 ∷ 83 ∷ 0 ∷ 920 ∷ 3 ∷ 5 ∷ 5 ∷ [])
-    ++ (1_023 ∷ 1 ∷ 84 ∷ 0 ∷ 1_023 ∷ 3 ∷ 10 ∷ 2 ∷ 1_459 ∷ 4 ∷ 12 ∷ []))
+    ++ (1_023 ∷ 1 ∷ 84 ∷ 0 ∷ 1_023 ∷ 3 ∷ 10 ∷ 2 ∷ 1_025 ∷ 4 ∷ 12 ∷ []))
     ∷ []
 
 -- SHA-512, against another program and against FIPS 180-4's own examples
@@ -649,15 +646,15 @@ hashes =
     ∷ []
 
 headTexts-hold : broken 0 headTexts ≡ []
-unfolding headTexts isBase64 letterValue holdsThree holdsTwo holdsOne joinedLetters base64Bytes cut sections readingAt reading isWholeLine carriesSignature isChunkLine chunkSize lineSignature lineRules lineFault chained blockMessage all same lowered sameName among isDoubled isProtected isProtectedDoubled namesOf hasField valueOf valuesOf endsHead isWholeHead headWith headOf statusDigits injectionId injectionTime blockSize blockKey headKey listedNames headSignature signedOf signingString trustedBy textRules callerRules headFault endsWith lines beforeEmpty textLines trimmed fieldScan isFieldLine fieldOf areFieldLines fieldsOf statusScan isStatusLine statusOf numberFrom isDecimal isHexNumber decimalWithin decimal fits firstFrom found firstBroken injectionScan isInjection bsigsScan isBsigs sig0Scan isSig0 splitNames areFields isNameList separated signedFields joinedFields signingLine signingText isWhole showOf headQuestion acceptHead judgeHead judgeFirstLine judgeDataEnd blockQuestion acceptBlock judgeNextLine judgeTrailer judge rules plainReading bigEndian padding padded number parsed schedule round rounds sums compressed hashed unparsed digest roundWords sha512 run past startsWith scan endsTrailer isWholeTrailer isTrailer
+unfolding headTexts isBase64 letterValue holdsThree holdsTwo holdsOne joinedLetters base64Bytes cut sections readingAt reading isWholeLine carriesSignature isChunkLine chunkSize lineSignature lineRules lineFault chained blockMessage all same lowered sameName among isDoubled isProtected isProtectedDoubled namesOf hasField valueOf valuesOf endsHead isWholeHead headWith headOf statusDigits injectionId injectionTime blockSize blockKey headKey listedNames headSignature signedOf signingString trustedBy textRules callerRules headFault endsWith lines beforeEmpty textLines trimmed fieldScan isFieldLine fieldOf areFieldLines fieldsOf statusScan isStatusLine statusOf numberFrom isDecimal isHexNumber decimalWithin decimal fits firstFrom found firstBroken injectionScan isInjection bsigsScan isBsigs sig0Scan isSig0 splitNames areFields isNameList separated signedFields joinedFields signingLine signingText isWhole showOf headQuestion acceptHead judgeHead judgeFirstLine judgeDataEnd blockQuestion acceptBlock judgeNextLine allFields isClaimed judgeEnd judgeTrailer judge rules plainReading bigEndian padding padded number parsed schedule round rounds sums compressed hashed unparsed digest roundWords sha512 run past startsWith scan endsTrailer isWholeTrailer isTrailer
 headTexts-hold = refl
 
 headRules-hold : broken 0 headRules ≡ []
-unfolding headRules isBase64 letterValue holdsThree holdsTwo holdsOne joinedLetters base64Bytes cut sections readingAt reading isWholeLine carriesSignature isChunkLine chunkSize lineSignature lineRules lineFault chained blockMessage all same lowered sameName among isDoubled isProtected isProtectedDoubled namesOf hasField valueOf valuesOf endsHead isWholeHead headWith headOf statusDigits injectionId injectionTime blockSize blockKey headKey listedNames headSignature signedOf signingString trustedBy textRules callerRules headFault endsWith lines beforeEmpty textLines trimmed fieldScan isFieldLine fieldOf areFieldLines fieldsOf statusScan isStatusLine statusOf numberFrom isDecimal isHexNumber decimalWithin decimal fits firstFrom found firstBroken injectionScan isInjection bsigsScan isBsigs sig0Scan isSig0 splitNames areFields isNameList separated signedFields joinedFields signingLine signingText isWhole showOf headQuestion acceptHead judgeHead judgeFirstLine judgeDataEnd blockQuestion acceptBlock judgeNextLine judgeTrailer judge rules plainReading bigEndian padding padded number parsed schedule round rounds sums compressed hashed unparsed digest roundWords sha512 run past startsWith scan endsTrailer isWholeTrailer isTrailer
+unfolding headRules isBase64 letterValue holdsThree holdsTwo holdsOne joinedLetters base64Bytes cut sections readingAt reading isWholeLine carriesSignature isChunkLine chunkSize lineSignature lineRules lineFault chained blockMessage all same lowered sameName among isDoubled isProtected isProtectedDoubled namesOf hasField valueOf valuesOf endsHead isWholeHead headWith headOf statusDigits injectionId injectionTime blockSize blockKey headKey listedNames headSignature signedOf signingString trustedBy textRules callerRules headFault endsWith lines beforeEmpty textLines trimmed fieldScan isFieldLine fieldOf areFieldLines fieldsOf statusScan isStatusLine statusOf numberFrom isDecimal isHexNumber decimalWithin decimal fits firstFrom found firstBroken injectionScan isInjection bsigsScan isBsigs sig0Scan isSig0 splitNames areFields isNameList separated signedFields joinedFields signingLine signingText isWhole showOf headQuestion acceptHead judgeHead judgeFirstLine judgeDataEnd blockQuestion acceptBlock judgeNextLine allFields isClaimed judgeEnd judgeTrailer judge rules plainReading bigEndian padding padded number parsed schedule round rounds sums compressed hashed unparsed digest roundWords sha512 run past startsWith scan endsTrailer isWholeTrailer isTrailer
 headRules-hold = refl
 
 blockRules-hold : broken 0 blockRules ≡ []
-unfolding blockRules isBase64 letterValue holdsThree holdsTwo holdsOne joinedLetters base64Bytes cut sections readingAt reading isWholeLine carriesSignature isChunkLine chunkSize lineSignature lineRules lineFault chained blockMessage all same lowered sameName among isDoubled isProtected isProtectedDoubled namesOf hasField valueOf valuesOf endsHead isWholeHead headWith headOf statusDigits injectionId injectionTime blockSize blockKey headKey listedNames headSignature signedOf signingString trustedBy textRules callerRules headFault endsWith lines beforeEmpty textLines trimmed fieldScan isFieldLine fieldOf areFieldLines fieldsOf statusScan isStatusLine statusOf numberFrom isDecimal isHexNumber decimalWithin decimal fits firstFrom found firstBroken injectionScan isInjection bsigsScan isBsigs sig0Scan isSig0 splitNames areFields isNameList separated signedFields joinedFields signingLine signingText isWhole showOf headQuestion acceptHead judgeHead judgeFirstLine judgeDataEnd blockQuestion acceptBlock judgeNextLine judgeTrailer judge rules plainReading bigEndian padding padded number parsed schedule round rounds sums compressed hashed unparsed digest roundWords sha512 run past startsWith scan endsTrailer isWholeTrailer isTrailer
+unfolding blockRules isBase64 letterValue holdsThree holdsTwo holdsOne joinedLetters base64Bytes cut sections readingAt reading isWholeLine carriesSignature isChunkLine chunkSize lineSignature lineRules lineFault chained blockMessage all same lowered sameName among isDoubled isProtected isProtectedDoubled namesOf hasField valueOf valuesOf endsHead isWholeHead headWith headOf statusDigits injectionId injectionTime blockSize blockKey headKey listedNames headSignature signedOf signingString trustedBy textRules callerRules headFault endsWith lines beforeEmpty textLines trimmed fieldScan isFieldLine fieldOf areFieldLines fieldsOf statusScan isStatusLine statusOf numberFrom isDecimal isHexNumber decimalWithin decimal fits firstFrom found firstBroken injectionScan isInjection bsigsScan isBsigs sig0Scan isSig0 splitNames areFields isNameList separated signedFields joinedFields signingLine signingText isWhole showOf headQuestion acceptHead judgeHead judgeFirstLine judgeDataEnd blockQuestion acceptBlock judgeNextLine allFields isClaimed judgeEnd judgeTrailer judge rules plainReading bigEndian padding padded number parsed schedule round rounds sums compressed hashed unparsed digest roundWords sha512 run past startsWith scan endsTrailer isWholeTrailer isTrailer
 blockRules-hold = refl
 
 hashes-hold : broken 0 hashes ≡ []

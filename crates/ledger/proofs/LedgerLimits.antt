@@ -16,12 +16,12 @@ use Rattle.stream.specs.Numbers.{numberFrom, isDecimal, decimalWithin, decimal}
 use Rattle.stream.specs.Ring.{fits, firstFrom, found}
 use Rattle.stream.specs.Rule.{firstBroken}
 use Rattle.stream.specs.Signatures.{injectionScan, isInjection, bsigsScan, isBsigs, sig0Scan, isSig0, splitNames, areFields, isNameList}
-use Rattle.stream.specs.Stream.{head, trailer}
+use Rattle.stream.specs.Stream.{nothing, head, trailer}
 use Rattle.stream.specs.Template.{run, past, startsWith, scan}
 use Rattle.stream.specs.Trailer.{endsTrailer, isWholeTrailer, isTrailer}
 use Rattle.stream.proofs.Example.{terms}
 use Rattle.kept.specs.OtherLimits.{paperLimits, isWholeUnder, textRulesUnder, faultUnder}
-use Rattle.ledger.proofs.Ledger.{Row, row, broken, asNumber, asLines, headLines, extraNames, extraLines, longHead}
+use Rattle.ledger.proofs.Ledger.{Row, row, broken, asNumber, asLines, headLines, extraNames, extraLines, longHead, show}
 
 -- a head as far as it is taken: how many bytes that are, whether it is whole a byte before, whether it is whole there, and its refusal, 0 where
 -- there is none
@@ -46,7 +46,7 @@ trailerTold whole l = length l ∷ asNumber (whole (take (length l - 1) l)) ∷ 
 
 abbrev trailers : ℕ → List ℕ
 trailers n =
-    trailerTold (isWholeUnder paperLimits (trailer 5)) (take (paperLimits .bytes) (trailerText n))
+    trailerTold (isWholeUnder paperLimits (trailer show nothing 5)) (take (paperLimits .bytes) (trailerText n))
     ++ trailerTold isWholeTrailer (take headLimit (trailerText n))
 
 pub limitRows : List Row

@@ -1,3 +1,5 @@
 pub mod Ledger
 pub mod LedgerCalls
 pub mod LedgerLimits
+pub mod LedgerEnds
+pub mod LedgerDigests

@@ -31,5 +31,8 @@ pub const SIZE_DIGITS: usize = 8;
 // The most bytes of a body.
 pub const BODY_LIMIT: u64 = 4_294_967_296;
 
+// The most digits of the size that a show claims for its body.
+pub const DATA_SIZE_DIGITS: usize = 10;
+
 // The most records of a key ring.
 pub const RING_LIMIT: usize = 16;

@@ -14,6 +14,8 @@ use Rattle.chunk.specs.declared.judging.LineAnswer.{LineAnswer}
 use Rattle.chunk.specs.declared.judging.LineAnswer.the-variants as A
 use Rattle.blocks.specs.declared.offsets.ByteOffset.{ByteOffset}
 use Rattle.number.specs.Writing.{Written}
+use Rattle.sha256.specs.Midstate.{added}
+use Rattle.sha256.specs.declared.Midstate.{Midstate}
 use Rattle.stream.specs.Blocks.{isWholeLine, chained, blockMessage}
 use Rattle.stream.specs.Limits.{lineLimit}
 use Rattle.state.specs.Configuration.{Configuration, configuration, withHash, lined, Next, on, stop, refuse}
@@ -37,6 +39,10 @@ nextJudged r size l = lineJudged (r .fixed .«block_size») true (eqb size (r .f
 abbrev pub hashNow : Configuration → ℕ → List ℕ
 hashNow d size = chained (pick (eqb (d .reader .chain .number .0) 0) [] (d .reader .chain .hash)) (take size (d .block))
 
+-- the body with the block, for its SHA-256
+abbrev pub bodyNow : Configuration → ℕ → Midstate
+bodyNow d size = added (d .reader .chain .body) (take size (d .block))
+
 -- the question about the block: its message is written at the front of the question buffer
 unfoldable pub messageNow : Configuration → ℕ → Written
 messageNow d size =
@@ -47,7 +53,7 @@ messageNow d size =
 unfoldable pub asked : Configuration → ℕ → ℕ → List ℕ → Next
 asked d size next signature =
     stop (W.Question (messageNow d size .count) (d .reader .fixed .key)) signature
-    (configuration (withHash (d .reader) (P.BlockAsked size next) (hashNow d size)) (d .head) (d .block) (messageNow d size .bytes))
+    (configuration (withHash (d .reader) (P.BlockAsked size next) (hashNow d size) (bodyNow d size)) (d .head) (d .block) (messageNow d size .bytes))
 
 unfoldable pub nextAnswered : Configuration → ℕ → LineAnswer → List ℕ → Next
 nextAnswered d size (A.Refused n) signature = refuse n size d

@@ -64,12 +64,13 @@ fn ask(
     let number = chain.number;
     let before = chain.hash;
     let hash = blocks::chain(number, before, &block[0..end]);
+    let body = sha256::add(chain.body, &block[0..end]);
     let fixed = r.fixed;
     let offset = blocks::offset_of(number, fixed.block_size as u64);
     let id = fixed.id;
     let length = blocks::message(question, id, fixed.id_length, offset, hash);
     let key = fixed.key;
-    let reader = with_hash(r, Phase::BlockAsked { size, next }, hash);
+    let reader = with_hash(r, Phase::BlockAsked { size, next }, hash, body);
     Stepped {
         word: Word::Question { length, key },
         signature,

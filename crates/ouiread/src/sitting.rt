@@ -97,6 +97,7 @@ fn tell_plain(s: Sitting, block: &[u8], word: Word) -> Sitting {
         Word::Head(status) => written(s, messages::event(b"head ", status)),
         Word::Block { offset, length } => tell_block(s, block, offset.0, length),
         Word::Closed(total) => stopped(written(s, messages::event(b"closed ", total))),
+        Word::Complete(total) => stopped(written(s, messages::event(b"complete ", total))),
         Word::Refused(why) => stopped(written(s, messages::refused(why))),
     }
 }
@@ -154,6 +155,7 @@ fn is_question(w: Word) -> bool {
             length: _,
         } => false,
         Word::Closed(_) => false,
+        Word::Complete(_) => false,
         Word::Refused(_) => false,
     }
 }

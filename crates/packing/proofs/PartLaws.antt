@@ -1,14 +1,14 @@
 -- Laws on numbers and runs of bytes in a buffer: turns of the loops that read and write them, and what is read back. Assumes nothing.
 use mathlib.Core.Path.{_≡_, refl, sym, ap, _∙_}
 use mathlib.Core.Logic.{⊎-elim}
-use mathlib.Core.List.{List, [], _∷_, _++_}
+use mathlib.Core.List.{List, [], _∷_, _++_, append-assoc, append-nil}
 use Prim.Native.Nat.{ℕ, zero, suc, _+_, _-_, _*_, _/_, _%_, _^_, _≤_, _<_, min}
 use native.Mathlib.Nat.{pow-suc, add-zero, suc-add, add-suc, eq-or-lt-of-le, le-of-suc-le-suc}
 use native.Mathlib.Numerals.{add-one}
 use native.Mathlib.Omega.{arith}
 use lib.ListN.{length, getD, set, drop, length-append, drop-of-length-le, List·getD-append}
 use lib.Seq.{sets, drop-cons, drop-drop, drop-at, append-snoc, set-at, set-out, getD-at, getD-drop, ext-getD}
-use Rattle.packing.specs.Parts.{littleEndian, allBytes, number, upTo, part, numberAt}
+use Rattle.packing.specs.Parts.{littleEndian, allBytes, number, upTo, part, numberAt, wordsAt}
 
 -- ---- a list of f's values
 
@@ -30,6 +30,15 @@ pub fill-turn : {A : Type 0} (f : ℕ → A) (d l : List A) (i : ℕ) (x : A) �
 unfolding upTo
 fill-turn f d l i x e h k =
     rw (e, k, add-one, drop-cons d i x h, append-snoc (upTo f i) (f i) (drop (suc i) d)) (set-at (upTo f i) _ (drop (suc i) d) (f i) i (long-up-to f i))
+
+pub fill-end : {A : Type 0} (f : ℕ → A) (d l : List A) (i n : ℕ) → l ≡ upTo f i ++ drop i d → length d ≤ i → i ≡ n → l ≡ upTo f n
+fill-end f d l i n e h k = e ∙ (rw (drop-of-length-le d {i = i} h, append-nil, k))
+
+-- a list is its own values
+pub all-up-to : (l : List ℕ) (n : ℕ) → length l ≡ n → upTo (λ j. getD l j 0) n ≡ l
+all-up-to l n e =
+    ext-getD 0 (upTo (λ j. getD l j 0) n) l (long-up-to _ n ∙ sym e)
+    (λ i h. at-up-to (λ j. getD l j 0) n i 0 (omega (arith, long-up-to (λ j. getD l j 0) n)))
 
 -- ---- bytes written over a buffer: a turn of the loop, and its end
 
@@ -129,3 +138,43 @@ part-there {whole} {n} {s} {ss} e k h =
 pub number-there : {whole : List ℕ} {n : ℕ} {ss : List (List ℕ)} → (x : ℕ) → At whole n (littleEndian 8 x ∷ ss) → x < 2 ^ 64 → numberAt whole n ≡ x
 unfolding numberAt
 number-there x e h = rw (part-there e 8 (long-bytes 8 x)) (number-back 8 x h)
+
+-- numbers of 8 bytes each: those from the number i on
+all-from : (ns rest : List ℕ) (i : ℕ) → i < length ns → drop (8 * i) (allBytes ns ++ rest) ≡ littleEndian 8 (getD ns i 0) ++ (allBytes (drop (suc i) ns) ++ rest)
+unfolding allBytes
+all-from [] rest i h = absurd (omega arith)
+all-from (n ∷ ns) rest zero h = append-assoc (littleEndian 8 n) (allBytes ns) rest
+all-from (n ∷ ns) rest (suc i) h =
+    let e : 8 * suc i ≡ 8 + 8 * i = omega arith in
+    rw (e, ← drop-drop (8 * i) 8 (littleEndian 8 n ++ allBytes ns ++ rest), append-assoc (littleEndian 8 n) (allBytes ns) rest, drop-at (littleEndian 8 n) (allBytes ns ++ rest) 8 (long-bytes 8 n))
+    (all-from ns rest i (le-of-suc-le-suc h))
+
+-- words: each is below 2 ^ 32, as every word in code is
+pub data Words : List ℕ → Type 0 where
+  none : Words []
+  more : {w : ℕ} {ws : List ℕ} → w < 2 ^ 32 → Words ws → Words (w ∷ ws)
+
+word-small : {ws : List ℕ} → Words ws → (i : ℕ) → i < length ws → getD ws i 0 < 2 ^ 32
+word-small none i h = absurd (omega arith)
+word-small (more s ss) zero h = s
+word-small (more s ss) (suc i) h = word-small ss i (le-of-suc-le-suc h)
+
+module _ {whole : List ℕ} {n : ℕ} {ss : List (List ℕ)} (ws : List ℕ) (e : At whole n (allBytes ws ∷ ss)) where
+  all-there : (i : ℕ) → i < length ws → At whole (n + 8 * i) (littleEndian 8 (getD ws i 0) ∷ allBytes (drop (suc i) ws) ∷ ss)
+  unfolding concat
+  all-there i h =
+      record { there = sym (drop-drop (8 * i) n whole) ∙ ap (λ (l : List ℕ). drop (8 * i) l) (e .there) ∙ all-from ws (concat ss) i h }
+
+  abbrev wordAt : ℕ → ℕ
+  wordAt i = numberAt whole (n + 8 * i) % 4294967296
+
+  -- words are read back
+  pub words-there : (k : ℕ) → length ws ≡ k → Words ws → wordsAt whole n k ≡ ws
+  words-there k g small =
+      ext-getD 0 (wordsAt whole n k) ws (long-up-to _ k ∙ sym g) (λ i h. at i (omega (arith, long-up-to wordAt k)))
+    where
+      at : (i : ℕ) → i < length ws → getD (wordsAt whole n k) i 0 ≡ getD ws i 0
+      at i h =
+          let b = word-small small i h in
+          let m : getD ws i 0 % 4294967296 ≡ getD ws i 0 = omega (arith, b) in
+          at-up-to wordAt k i 0 (omega arith) ∙ ap (λ (x : ℕ). x % 4294967296) (number-there (getD ws i 0) (all-there i h) (omega (arith, b))) ∙ m

@@ -34,6 +34,10 @@ part l at k = upTo (λ i. getD l (at + i) 0) k
 unfoldable pub numberAt : List ℕ → ℕ → ℕ
 numberAt l at = number (part l at 8)
 
+-- k words from the place `at` on, each a number of 8 bytes; of one that is too large for a word its lowest bits count
+abbrev pub wordsAt : List ℕ → ℕ → ℕ → List ℕ
+wordsAt l at k = upTo (λ i. numberAt l (at + 8 * i) % 4294967296) k
+
 -- how many bytes there are, and the buffer after them
 pub record Placed : Type 0 where
   pub count : ℕ

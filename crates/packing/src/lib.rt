@@ -3,6 +3,7 @@
 // sum of places is too large.
 mod keys; // a key ring
 mod parts; // numbers and runs of bytes
+mod words; // words, each as a number
 
 pub use keys::keys_in;
 pub use parts::bytes_64;
@@ -13,3 +14,5 @@ pub use parts::put_64;
 pub use parts::put_128;
 pub use parts::put_number;
 pub use parts::put_numbers;
+pub use words::put_words;
+pub use words::words_at;

@@ -35,11 +35,17 @@ fn quad_at(from: &[u8], at: usize) -> u32
 }
 
 // The number that eight bytes write, from the place `at` on.
+pub(crate) fn number_from(from: &[u8], at: usize) -> u64
+    requires { ⌜ at ≤ 131000 ⌝ }
+    ensures { λ r. ⌜ r ≡ numberAt (now (from .entry)) at ⌝ }
+{
+    joined(quad_at(from, at), quad_at(from, at + 4))
+}
+
 pub fn number_at(from: &[u8], at: u16) -> u64
     ensures { λ r. ⌜ r ≡ numberAt (now (from .entry)) at ⌝ }
 {
-    let start = at as usize;
-    joined(quad_at(from, start), quad_at(from, start + 4))
+    number_from(from, at as usize)
 }
 
 // Fills `to` from the place `at` on.

@@ -1,4 +1,4 @@
--- What the value of `X-Ouinet-Sig0` says (paper 01, "The head"). Assumes nothing.
+-- What the value of `X-Ouinet-Sig0` says (paper 01, "The head"), and of `X-Ouinet-Sig1`, which is "written as Sig0" (request #101). Assumes nothing.
 use mathlib.Core.Bool.{Bool, true, false}
 use mathlib.Core.List.{List, []}
 use mathlib.Core.Path.{_≡_}

@@ -1,4 +1,4 @@
-// The value of `X-Ouinet-Sig0`: a key, a time, the signed names and a signature.
+// The value of `X-Ouinet-Sig0`, and of `X-Ouinet-Sig1`, which is written likewise: a key, a time, the signed names and a signature.
 use crate::parts;
 use crate::parts::Run;
 use classes::Class;

@@ -2,24 +2,24 @@
 use mathlib.Core.Path.{_≡_}
 use mathlib.Core.Bool.{Bool, true}
 use mathlib.Core.List.{List, [], _∷_, _++_}
-use Prim.Native.Nat.{ℕ, suc}
+use Prim.Native.Nat.{ℕ}
 use lib.ListN.{length, replicate}
 use Rattle.sections.specs.Reading.{last, Log}
 use Rattle.sections.specs.Calls.{Call, Out, over, standing}
 use Rattle.sections.specs.Machine.{runCalls}
 use Rattle.sections.specs.Resuming.{Resumes, events, bytesTaken, answersHeard}
-use Rattle.stream.specs.Events.{Question, Release, LastWord, closed}
+use Rattle.stream.specs.Events.{Question, Release, LastWord}
 use Rattle.stream.specs.Stream.{head, rules}
 use Rattle.stream.specs.Terms.{Terms}
-use Rattle.exactness.specs.ShowEvents.{showEvents}
-use Rattle.exactness.specs.Shows.{WholeShow, bodyOf, streamOf}
+use Rattle.exactness.specs.ShowEvents.{goodWord, showEvents}
+use Rattle.exactness.specs.Shows.{WholeShow, bodyOf, streamOf, claimsEnd, yesesOf}
 use Rattle.reaching.specs.Driver.{callsOver}
 
 module _ (terms : Terms) where
-  -- the caller's calls, for any lengths of the pieces, with a yes for the head and for each block, and any answers more; and what
-  -- they return
+  -- the caller's calls, for any lengths of the pieces, with a yes for the head, for each block and for a claimed end, and any answers
+  -- more; and what they return
   abbrev pub showCalls : List ℕ → List Bool → WholeShow → List Call
-  showCalls lengths others s = callsOver (rules terms) head lengths (replicate (suc (length (s .chunks))) true ++ others) (streamOf s)
+  showCalls lengths others s = callsOver (rules terms) head lengths (replicate (yesesOf s) true ++ others) (streamOf s)
 
   abbrev pub showOuts : List ℕ → List Bool → WholeShow → List (Out Question Release LastWord)
   showOuts lengths others s = runCalls (rules terms) head (showCalls lengths others s)
@@ -29,11 +29,12 @@ module _ (terms : Terms) where
     pub resumes : Resumes (streamOf s) ks os
     -- all of the stream is taken
     pub took : bytesTaken ks os ≡ streamOf s
-    -- a yes is heard for the head and for each block, and no other answer
-    pub yeses : answersHeard ks os ≡ replicate (suc (length (s .chunks))) true
+    -- a yes is heard for the head, for each block and for a claimed end, and no other answer
+    pub yeses : answersHeard ks os ≡ replicate (yesesOf s) true
     -- the events, with their places, are those computed from the show
     pub all-events : events os ≡ showEvents (terms .ring) s
-    -- the last of them, at the place of all bytes, is *closed* with the length of the body; it is a last word, and the run is over
-    pub before-closed : Log Question Release LastWord
-    pub then-closed : events os ≡ before-closed ++ (length (streamOf s), last (closed (length (bodyOf (s .chunks))))) ∷ []
+    -- the last of them, at the place of all bytes, is *complete* where an end is claimed, else *closed*, with the length of the body; it is
+    -- a last word, and the run is over
+    pub before-last : Log Question Release LastWord
+    pub then-last : events os ≡ before-last ++ (length (streamOf s), last (goodWord (claimsEnd s) (length (bodyOf (s .chunks))))) ∷ []
     pub is-over : standing (events os) ≡ over

@@ -18,7 +18,7 @@ use Rattle.head_steps.specs.HeadByte.{pushHead}
 use Rattle.line_steps.specs.FirstLine.{pushFirstLine}
 use Rattle.line_steps.specs.NextLine.{pushNextLine}
 use Rattle.body_steps.specs.Data.{pushData, pushDataEnd}
-use Rattle.body_steps.specs.Trailer.{pushTrailer}
+use Rattle.trailer_steps.specs.Trailer.{pushTrailer}
 use Rattle.calls.specs.Response.{Response, response, telling, unchanged, fits, isReading, recalled}
 
 -- one byte, by the phase; a feed pushes none where a question is open or the last word is said
@@ -31,7 +31,9 @@ pushAt terms (P.DataEnd have size) d x = pushDataEnd d have size x
 pushAt terms (P.NextLine have size) d x = pushNextLine d have size x
 pushAt terms (P.BlockAsked size next) d x = stop (W.Refused (plain 1)) noSignature d
 pushAt terms (P.Trailer have total) d x = pushTrailer d have total x
+pushAt terms (P.EndAsked have total) d x = stop (W.Refused (plain 1)) noSignature d
 pushAt terms (P.Closed total) d x = stop (W.Refused (plain 1)) noSignature d
+pushAt terms (P.Complete total) d x = stop (W.Refused (plain 1)) noSignature d
 pushAt terms (P.Refused n) d x = stop (W.Refused (plain 1)) noSignature d
 
 abbrev pub pushByte : Terms → Configuration → ℕ → Next

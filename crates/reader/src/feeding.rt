@@ -54,8 +54,18 @@ fn push(
             x,
         ),
         Phase::BlockAsked { size: _, next: _ } => not_due(r),
-        Phase::Trailer { have, total } => body_steps::push_trailer(r, block, have, total, x),
+        Phase::Trailer { have, total } => trailer_steps::push_trailer(
+            r,
+            head,
+            block,
+            question,
+            have,
+            total,
+            x,
+        ),
+        Phase::EndAsked { have: _, total: _ } => not_due(r),
         Phase::Closed(_) => not_due(r),
+        Phase::Complete(_) => not_due(r),
         Phase::Refused(_) => not_due(r),
     }
 }

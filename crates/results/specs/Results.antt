@@ -13,12 +13,14 @@ use Rattle.packing.specs.Parts.{allBytes}
 abbrev pub resultSize : ℕ
 resultSize = 96
 
+-- request #101: *complete* came last, and the others kept their numbers
 abbrev pub wordOf : Word → ℕ
 wordOf W.More = 0
 wordOf (W.Question n key) = 1
 wordOf (W.Head status) = 2
 wordOf (W.Block offset n) = 3
 wordOf (W.Closed total) = 4
+wordOf (W.Complete total) = 6
 wordOf (W.Refused n) = 5
 
 -- a message's length, a status, an offset, a total, the number of a refusal
@@ -28,6 +30,7 @@ firstIn (W.Question n key) = n
 firstIn (W.Head status) = status
 firstIn (W.Block offset n) = offset .0
 firstIn (W.Closed total) = total
+firstIn (W.Complete total) = total
 firstIn (W.Refused why) = why .number
 
 -- the number of a record, a block's length, where a text went wrong
@@ -37,6 +40,7 @@ secondIn (W.Question n key) = key
 secondIn (W.Head status) = 0
 secondIn (W.Block offset n) = n
 secondIn (W.Closed total) = 0
+secondIn (W.Complete total) = 0
 secondIn (W.Refused why) = why .at
 
 unfoldable pub resultBytes : Word → ℕ → List ℕ → List ℕ

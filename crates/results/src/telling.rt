@@ -22,6 +22,7 @@ fn word_of(w: Word) -> u8
             length: _,
         } => 3,
         Word::Closed(_) => 4,
+        Word::Complete(_) => 6,
         Word::Refused(_) => 5,
     }
 }
@@ -41,6 +42,7 @@ fn first_in(w: Word) -> u64
         Word::Head(status) => status,
         Word::Block { offset, length: _ } => start(offset),
         Word::Closed(total) => total,
+        Word::Complete(total) => total,
         Word::Refused(why) => why.number as u64,
     }
 }
@@ -54,6 +56,7 @@ fn second_in(w: Word) -> u64
         Word::Head(_) => 0,
         Word::Block { offset: _, length } => length as u64,
         Word::Closed(_) => 0,
+        Word::Complete(_) => 0,
         Word::Refused(why) => why.at as u64,
     }
 }

@@ -21,8 +21,8 @@ Log Q E L = List (ℕ × Event Q E L)
 
 -- ---- the rules of a protocol
 
--- What a yes to a question gives: a message, and reading goes on in a context; or a last word. (In paper 01 each yes gives a message;
--- `final` is there for a protocol whose last section asks too.)
+-- What a yes to a question gives: a message, and reading goes on in a context; or a last word, where the last section asks too (request
+-- #101).
 pub data Grant (C E L : Type 0) : Type 0 where
   granted : E → C → Grant C E L
   final : L → Grant C E L

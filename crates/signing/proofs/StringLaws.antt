@@ -1,6 +1,6 @@
 -- The signing string, line by line. Assumes nothing.
 use mathlib.Core.List.{List, [], _∷_, _++_, map, append-nil, append-assoc}
-use mathlib.Core.Path.{_≡_, sym, ap, _∙_}
+use mathlib.Core.Path.{_≡_, refl, sym, ap, _∙_}
 use Prim.Native.Nat.{ℕ, _+_, _≤_, _<_}
 use native.Mathlib.Numerals.{add-one}
 use lib.ListN.{length, getD, drop, drop-of-length-le, List·getD-map}
@@ -12,7 +12,7 @@ use Rattle.stream.specs.Signatures.{listedFields, responseStatusName, createdNa
 use Rattle.stream.specs.Signing.{separated, joinedValue, joinedFields, signingLine, signingText}
 use Rattle.places.specs.Writing.{placed, wrote}
 use Rattle.places.proofs.WritingLaws.{same-size, wrote-more, wrote-nil}
-use Rattle.signing.specs.Writing.{labelOf, lineOf, ledBy, following, stringOf}
+use Rattle.signing.specs.Writing.{labelOf, lineOf, ledBy, following, addedLine, stringOf}
 
 -- ---- texts with another between them
 
@@ -21,6 +21,22 @@ pub joined-is : (between t : List ℕ) (ts : List (List ℕ)) → separated betw
 unfolding separated ledBy
 joined-is between t [] = sym (append-nil t)
 joined-is between t (u ∷ ts) = ap (λ (l : List ℕ). t ++ (between ++ l)) (joined-is between u ts)
+
+-- fields after fields
+pub following-joined : (fs gs : List Field) → following (fs ++ gs) ≡ following fs ++ following gs
+unfolding ledBy
+following-joined [] gs = refl
+following-joined (f ∷ fs) gs =
+    ap (λ (l : List ℕ). 10 ∷ (signingLine f ++ l)) (following-joined fs gs)
+    ∙ ap (λ (l : List ℕ). 10 ∷ l) (sym (append-assoc (signingLine f) (following fs) (following gs)))
+
+pub text-joined : (f : Field) (fs gs : List Field) → signingText (f ∷ (fs ++ gs)) ≡ signingText (f ∷ fs) ++ following gs
+unfolding signingText
+text-joined f fs gs =
+    joined-is (10 ∷ []) (signingLine f) (map signingLine (fs ++ gs))
+    ∙ ap (λ (l : List ℕ). signingLine f ++ l) (following-joined fs gs)
+    ∙ sym (append-assoc (signingLine f) (following fs) (following gs))
+    ∙ ap (λ (l : List ℕ). l ++ following gs) (sym (joined-is (10 ∷ []) (signingLine f) (map signingLine fs)))
 
 -- ---- a line
 
@@ -61,6 +77,13 @@ module _ (d : List ℕ) (at : ℕ) (name : List ℕ) (n : ℕ) (b : List ℕ) wh
 
   pub line-written : placed n b ≡ wrote d at (labelOf name) → (value : List ℕ) (k : ℕ) (x : List ℕ) → placed k x ≡ wrote b n value → placed k x ≡ wrote d at (lineOf name value)
   line-written e value k x f = f ∙ wrote-more d at (labelOf name) n b e value ∙ ap (wrote d at) (sym (line-is name value))
+
+-- one line more
+module _ (d : List ℕ) (at : ℕ) (name value : List ℕ) (n : ℕ) (b : List ℕ) (e : placed n b ≡ wrote d at (10 ∷ [])) where
+  pub added-written : (k : ℕ) (x : List ℕ) → placed k x ≡ wrote b n (lineOf name value) → placed k x ≡ wrote d at (addedLine name value)
+  unfolding ledBy
+  added-written k x f =
+      f ∙ wrote-more d at (10 ∷ []) n b e (lineOf name value) ∙ ap (λ (l : List ℕ). wrote d at (10 ∷ l)) (sym (append-nil (lineOf name value)))
 
 module _ (fs : List Field) (ns : List (List ℕ)) where
   -- a turn of the loop over the fields

@@ -27,6 +27,10 @@ ledBy between (t ∷ ts) = between ++ (t ++ ledBy between ts)
 abbrev pub following : List Field → List ℕ
 following fs = ledBy (10 ∷ []) (map signingLine fs)
 
+-- one line more, after those that there are
+abbrev pub addedLine : List ℕ → List ℕ → List ℕ
+addedLine name value = following (record { name = name; value = value } ∷ [])
+
 -- by the fields of a head, its listed names, the digits of its status and those of `created`
 unfoldable pub stringOf : List Field → List (List ℕ) → List ℕ → List ℕ → List ℕ
 stringOf fs ns digits seconds =

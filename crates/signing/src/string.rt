@@ -5,7 +5,7 @@ use fields::Fields;
 use names::Names;
 ghost use mathlib.Core.Path.{_≡_};
 ghost use Rattle.places.specs.Writing.{placed, wrote};
-ghost use Rattle.signing.specs.Writing.{linesIn, stringIn};
+ghost use Rattle.signing.specs.Writing.{addedLine, linesIn, stringIn};
 
 // The fields that the list names after its first two, each on a line of its own.
 fn put_fields(text: &[u8], f: Fields, list: &[u8], n: Names, out: &mut [u8], from: usize) -> usize
@@ -39,4 +39,12 @@ pub fn put_string(
     let start = places::put(out, second, b"\n");
     let third = line::put_line(out, start, b"(created)", created);
     put_fields(text, f, list, n, out, third)
+}
+
+// One line more, after what was written: the line of a field whose value is given.
+pub fn put_added(out: &mut [u8], at: usize, name: &[u8], value: &[u8]) -> usize
+    ensures { λ r. ⌜ placed r (now (out .exit)) ≡ wrote (now (out .entry)) at (addedLine (now (name .entry)) (now (value .entry))) ⌝ }
+{
+    let start = places::put(out, at, b"\n");
+    line::put_line(out, start, name, value)
 }

@@ -5,6 +5,8 @@ use Prim.Native.Nat.{ℕ, min}
 use lib.ListN.{length, drop, replicate}
 use Rattle.octets.specs.Choice.{pick}
 use Rattle.refusals.specs.declared.Refusal.{Refusal}
+use Rattle.sha256.specs.Midstate.{start}
+use Rattle.sha256.specs.declared.Midstate.{Midstate}
 use Rattle.stream.specs.Limits.{idLimit, lineLimit}
 use Rattle.state.specs.declared.phase.Phase.{Phase}
 use Rattle.state.specs.declared.phase.Phase.the-variants as P
@@ -34,7 +36,7 @@ freshReader =
       phase = P.Head 0;
       fixed =
           record { accepted = 0; status = 0; «block_size» = 0; key = 0; id = replicate idLimit 0; «id_length» = 0 };
-      chain = record { number = record { 0 = 0 }; hash = replicate 64 0 };
+      chain = record { number = record { 0 = 0 }; hash = replicate 64 0; body = start };
       line = replicate lineLimit 0;
       released = 0;
     }
@@ -59,8 +61,8 @@ inPhase r p = renewed r p (r .line) (r .chain)
 abbrev pub withLine : Reader → Phase → List ℕ → Reader
 withLine r p line = renewed r p line (r .chain)
 
-abbrev pub withHash : Reader → Phase → List ℕ → Reader
-withHash r p hash = renewed r p (r .line) (record { number = r .chain .number; hash = hash })
+abbrev pub withHash : Reader → Phase → List ℕ → Midstate → Reader
+withHash r p hash body = renewed r p (r .line) (record { number = r .chain .number; hash = hash; body = body })
 
 -- the same buffers, the reader in another phase
 abbrev pub moved : Configuration → Phase → Configuration
@@ -87,6 +89,7 @@ goesOn (W.Question n k) = false
 goesOn (W.Head s) = false
 goesOn (W.Block o n) = false
 goesOn (W.Closed n) = false
+goesOn (W.Complete n) = false
 goesOn (W.Refused n) = false
 
 -- what the code's answer says, with the buffers as it leaves them
@@ -109,7 +112,9 @@ pending (P.DataEnd have size) = size
 pending (P.NextLine have size) = size
 pending (P.BlockAsked size next) = size
 pending (P.Trailer have total) = have
+pending (P.EndAsked have total) = have
 pending (P.Closed total) = 0
+pending (P.Complete total) = 0
 pending (P.Refused n) = 0
 
 -- the first n bytes zero, all where there are fewer

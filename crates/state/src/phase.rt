@@ -20,8 +20,11 @@ pub enum Phase {
     BlockAsked { size: usize, next: usize },
     // In the trailer of a body of `total` bytes.
     Trailer { have: usize, total: u64 },
-    // The two last words.
+    // The question about the end of the show is open.
+    EndAsked { have: usize, total: u64 },
+    // The three last words.
     Closed(u64),
+    Complete(u64),
     Refused(u8),
 }
 
@@ -38,7 +41,9 @@ pub fn pending(p: Phase) -> usize
         Phase::NextLine { have: _, size } => size,
         Phase::BlockAsked { size, next: _ } => size,
         Phase::Trailer { have, total: _ } => have,
+        Phase::EndAsked { have, total: _ } => have,
         Phase::Closed(_) => 0,
+        Phase::Complete(_) => 0,
         Phase::Refused(_) => 0,
     }
 }

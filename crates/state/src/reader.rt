@@ -2,6 +2,7 @@
 // buffers.
 use crate::phase::Phase;
 use blocks::BlockNumber;
+use sha256::Midstate;
 ghost use mathlib.Core.Path.{_≡_};
 ghost use Rattle.state.specs.Configuration.{freshReader, renewed as renewedReader, inPhase, withLine, withHash};
 
@@ -19,10 +20,11 @@ pub struct Fixed {
     pub id_length: usize,
 }
 
-// The chain of blocks: the block under way, and the hash of the one before it.
+// The chain of blocks: the block under way, the hash of the one before it, and the body up to there as SHA-256 has it under way.
 pub struct Chain {
     pub number: BlockNumber,
     pub hash: [u8; 64],
+    pub body: Midstate,
 }
 
 pub struct Reader {
@@ -50,6 +52,7 @@ pub fn fresh() -> Reader
     let chain = Chain {
         number: BlockNumber(0),
         hash: [0; 64],
+        body: sha256::start(),
     };
     Reader {
         phase: Phase::Head(0),
@@ -90,12 +93,12 @@ pub fn with_line(r: Reader, phase: Phase, line: [u8; 128]) -> Reader
     renewed(r, phase, line, chain)
 }
 
-// The same with another hash.
-pub fn with_hash(r: Reader, phase: Phase, hash: [u8; 64]) -> Reader
-    ensures { λ s. ⌜ s ≡ withHash r phase hash ⌝ }
+// The same with another hash, and another body.
+pub fn with_hash(r: Reader, phase: Phase, hash: [u8; 64], body: Midstate) -> Reader
+    ensures { λ s. ⌜ s ≡ withHash r phase hash body ⌝ }
 {
     let line = r.line;
     let before = r.chain;
     let number = before.number;
-    renewed(r, phase, line, Chain { number, hash })
+    renewed(r, phase, line, Chain { number, hash, body })
 }

@@ -4,13 +4,14 @@ use refusals::Refusal;
 ghost use mathlib.Core.Path.{_≡_};
 ghost use Rattle.state.specs.Configuration.{goesOn};
 
-// What a call says. Closed and Refused are final, but for the refusals 1 and 2, which answer a call and change nothing.
+// What a call says. Closed, Complete and Refused are final, but for the refusals 1 and 2, which answer a call and change nothing.
 pub enum Word {
     More,
     Question { length: usize, key: usize },
     Head(u64),
     Block { offset: ByteOffset, length: usize },
     Closed(u64),
+    Complete(u64),
     Refused(Refusal),
 }
 
@@ -27,6 +28,7 @@ pub fn goes_on(w: Word) -> bool
             length: _,
         } => false,
         Word::Closed(_) => false,
+        Word::Complete(_) => false,
         Word::Refused(_) => false,
     }
 }

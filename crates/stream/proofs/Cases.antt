@@ -13,7 +13,8 @@ use Rattle.hash.specs.Sha512.{roundWords, sha512}
 use Rattle.sections.specs.Reading.{Event, question, message, last, Log, go, tell, ask, stop, cutAt, oneSection, cut, sections, readingAt, reading}
 use Rattle.stream.specs.Blocks.{isWholeLine, carriesSignature, isChunkLine, chunkSize, lineSignature, lineRules, lineFault, chained, blockMessage}
 use Rattle.stream.specs.Bytes.{all, same, lowered, sameName}
-use Rattle.stream.specs.Events.{Question, Release, headAccepted, block, LastWord, closed, refused}
+use Rattle.stream.specs.Ends.{allFields, isClaimed}
+use Rattle.stream.specs.Events.{Question, Release, headAccepted, block, LastWord, closed, complete, refused}
 use Rattle.stream.specs.Fields.{among, isDoubled, isProtected, isProtectedDoubled, namesOf, hasField, valueOf, valuesOf}
 use Rattle.stream.specs.Head.{endsHead, isWholeHead, headWith as readHead, headOf, statusDigits, injectionId, injectionTime, blockSize, blockKey, headKey, listedNames, headSignature, signedOf, signingString, trustedBy, textRules, callerRules, headFault}
 use Rattle.stream.specs.Lines.{endsWith, lines, beforeEmpty, textLines, trimmed, fieldScan, isFieldLine, fieldOf, areFieldLines, fieldsOf, statusScan, isStatusLine, statusOf}
@@ -22,7 +23,7 @@ use Rattle.stream.specs.Ring.{fits, firstFrom, found}
 use Rattle.stream.specs.Rule.{firstBroken}
 use Rattle.stream.specs.Signatures.{injectionScan, isInjection, bsigsScan, isBsigs, sig0Scan, isSig0, splitNames, areFields, isNameList}
 use Rattle.stream.specs.Signing.{separated, signedFields, joinedFields, signingLine, signingText}
-use Rattle.stream.specs.Stream.{head, firstLine, blockData, dataEnd, nextLine, trailer, isWhole, Says, showOf, headQuestion, acceptHead, judgeHead, judgeFirstLine, judgeDataEnd, blockQuestion, acceptBlock, judgeNextLine, judgeTrailer, judge, rules, plainReading}
+use Rattle.stream.specs.Stream.{head, firstLine, blockData, dataEnd, nextLine, trailer, isWhole, Says, showOf, headQuestion, acceptHead, judgeHead, judgeFirstLine, judgeDataEnd, blockQuestion, acceptBlock, judgeNextLine, judgeEnd, judgeTrailer, judge, rules, plainReading}
 use Rattle.stream.specs.Template.{run, past, startsWith, scan}
 use Rattle.stream.specs.Terms.{Terms}
 use Rattle.stream.specs.Trailer.{endsTrailer, isWholeTrailer, isTrailer}
@@ -37,10 +38,11 @@ lineSays (go (firstLine s)) = []
 lineSays (go (blockData s p n)) = 100 ∷ n ∷ []
 lineSays (go (dataEnd s p b)) = []
 lineSays (go (nextLine s p b)) = []
-lineSays (go (trailer total)) = 100 ∷ 0 ∷ []
+lineSays (go (trailer s p total)) = 100 ∷ 0 ∷ []
 lineSays (tell e c) = []
 lineSays (ask q y) = []
 lineSays (stop (closed n)) = []
+lineSays (stop (complete n)) = []
 lineSays (stop (refused n at)) = n ∷ []
 
 first : String → List ℕ
@@ -52,6 +54,7 @@ said (go c) = []
 said (tell e c) = []
 said (ask q y) = 0 ∷ length (q .message) ∷ []
 said (stop (closed total)) = []
+said (stop (complete total)) = []
 said (stop (refused n at)) = n ∷ at ∷ []
 
 -- an event as its line of output has it: a code for the word, and its numbers
@@ -60,6 +63,7 @@ told (question q) = 1 ∷ length (q .message) ∷ []
 told (message (headAccepted status signed)) = 2 ∷ status ∷ []
 told (message (block offset bytes)) = 3 ∷ offset ∷ length bytes ∷ []
 told (last (closed total)) = 4 ∷ total ∷ []
+told (last (complete total)) = 6 ∷ total ∷ []
 told (last (refused n at)) = 5 ∷ n ∷ []
 
 unfoldable pub events : Log Question Release LastWord → List ℕ
@@ -123,5 +127,5 @@ holdsAll [] = true
 holdsAll (c ∷ cs) = same (c .got) (c .due) && holdsAll cs
 
 pub marked-cases : holdsAll table ≡ true
-unfolding holdsAll table injectionFault sizeFault events told first lineSays isBase64 letterValue holdsThree holdsTwo holdsOne joinedLetters base64Bytes cut sections readingAt reading isWholeLine carriesSignature isChunkLine chunkSize lineSignature lineRules lineFault chained blockMessage all same lowered sameName among isDoubled isProtected isProtectedDoubled namesOf hasField valueOf valuesOf endsHead isWholeHead readHead headOf statusDigits injectionId injectionTime blockSize blockKey headKey listedNames headSignature signedOf signingString trustedBy textRules callerRules headFault endsWith lines beforeEmpty textLines trimmed fieldScan isFieldLine fieldOf areFieldLines fieldsOf statusScan isStatusLine statusOf numberFrom isDecimal isHexNumber decimalWithin decimal fits firstFrom found firstBroken injectionScan isInjection bsigsScan isBsigs sig0Scan isSig0 splitNames areFields isNameList separated signedFields joinedFields signingLine signingText isWhole showOf headQuestion acceptHead judgeHead judgeFirstLine judgeDataEnd blockQuestion acceptBlock judgeNextLine judgeTrailer judge rules plainReading bigEndian padding padded number parsed schedule round rounds sums compressed hashed unparsed digest roundWords sha512 run past startsWith scan endsTrailer isWholeTrailer isTrailer
+unfolding holdsAll table injectionFault sizeFault events told first lineSays isBase64 letterValue holdsThree holdsTwo holdsOne joinedLetters base64Bytes cut sections readingAt reading isWholeLine carriesSignature isChunkLine chunkSize lineSignature lineRules lineFault chained blockMessage all same lowered sameName among isDoubled isProtected isProtectedDoubled namesOf hasField valueOf valuesOf endsHead isWholeHead readHead headOf statusDigits injectionId injectionTime blockSize blockKey headKey listedNames headSignature signedOf signingString trustedBy textRules callerRules headFault endsWith lines beforeEmpty textLines trimmed fieldScan isFieldLine fieldOf areFieldLines fieldsOf statusScan isStatusLine statusOf numberFrom isDecimal isHexNumber decimalWithin decimal fits firstFrom found firstBroken injectionScan isInjection bsigsScan isBsigs sig0Scan isSig0 splitNames areFields isNameList separated signedFields joinedFields signingLine signingText isWhole showOf headQuestion acceptHead judgeHead judgeFirstLine judgeDataEnd blockQuestion acceptBlock judgeNextLine allFields isClaimed judgeEnd judgeTrailer judge rules plainReading bigEndian padding padded number parsed schedule round rounds sums compressed hashed unparsed digest roundWords sha512 run past startsWith scan endsTrailer isWholeTrailer isTrailer
 marked-cases = refl

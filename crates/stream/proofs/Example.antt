@@ -4,6 +4,7 @@ use mathlib.Core.List.{List, [], _∷_, _++_}
 use Prim.Native.Nat.{ℕ}
 use lib.ListN.{replicate}
 use Rattle.octets.specs.Octets.{octets}
+use Rattle.stream.specs.Head.{headOf}
 use Rattle.stream.specs.Ring.{Ring}
 use Rattle.stream.specs.Stream.{Show}
 use Rattle.stream.specs.Terms.{Terms}
@@ -61,5 +62,6 @@ ring = record { key = replicate 32 0; first = 0; last = 1_584_748_800 } ∷ []
 abbrev pub terms : Terms
 terms = record { ring = ring; uri = octets "https://example.com/hello" }
 
+-- a show whose head has no fields, for sections after it
 abbrev pub show : Show
-show = record { id = octets "qwertyuiop-12345"; size = 16; keyNumber = 0 }
+show = record { id = octets "qwertyuiop-12345"; size = 16; keyNumber = 0; head = headOf [] }

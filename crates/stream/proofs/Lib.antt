@@ -11,6 +11,9 @@ pub mod ScanSizes
 pub mod LineSizes
 pub mod NameSizes
 pub mod SigningSize
+pub mod EndString
+pub mod EndLists
+pub mod EndFields
 pub mod SignedLaws
 pub mod MessageLaws
 pub mod Sound

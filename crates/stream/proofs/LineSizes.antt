@@ -9,7 +9,7 @@ use lib.ListN.{length, drop, length-reverse}
 use Rattle.stream.specs.Bytes.{isBlank}
 use Rattle.stream.specs.Lines.{inFront, lines, beforeEmpty, textLines, trimmed, Field, fieldScan, isFieldLine, fieldOf, areFieldLines, fieldsOf}
 use Rattle.stream.specs.Template.{past, isLike, kept}
-use Rattle.stream.proofs.ScanSizes.{total, run-past, scan-fits, first-two}
+use Rattle.stream.proofs.ScanSizes.{total, run-past, scan-fits, three-kept}
 use Rattle.stream.proofs.Truth.{left-holds, right-holds}
 
 -- ---- lines
@@ -68,7 +68,7 @@ field-size line h =
     omega (
       arith,
       trimmed-size (kept 1 (fieldScan line)),
-      first-two (fieldScan line),
+      three-kept (fieldScan line),
       scan-fits _ line (left-holds (isLike (fieldScan line)) (leb 1 (length (kept 0 (fieldScan line)))) h),
     )
 

@@ -108,7 +108,7 @@ rows =
     ∷ says "a signature that is not due" (judgeFirstLine show (signed (letters 86 ++ octets "=="))) (8 ∷ 0 ∷ [])
     ∷ says "a bad line after a block" (judgeNextLine show nothing (octets "01234") (line "5;ouisig")) (6 ∷ 8 ∷ [])
     ∷ says "a bad data end" (judgeDataEnd show nothing (octets "01234") (octets "\r\r")) (6 ∷ 1 ∷ [])
-    ∷ says "a bad trailer" (judgeTrailer 5 (line "A b" ++ crlf)) (6 ∷ 1 ∷ [])
+    ∷ says "a bad trailer" (judgeTrailer show nothing 5 (line "A b" ++ crlf)) (6 ∷ 1 ∷ [])
     ∷ says "a bad head" (judgeHead terms (line "HTTP/1.1 20" ++ crlf)) (3 ∷ 11 ∷ [])
     ∷ says "a head with 129 fields" (judgeHead terms (withLines (fields 129 ++ crlf))) (3 ∷ 793 ∷ [])
     ∷ says "a head with two fields of one protected name" (judgeHead terms (withLines (line "x-ouinet-: b" ++ (line "X-Ouinet-: c" ++ crlf)))) (3 ∷ 47 ∷ [])

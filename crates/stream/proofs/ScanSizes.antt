@@ -1,6 +1,6 @@
 -- What a template finds in a text is no longer than the text: its fixed texts and the runs that it keeps, together. Assumes nothing.
 use mathlib.Core.Bool.{Bool, true, false, false≢true}
-use mathlib.Core.List.{List, [], _∷_}
+use mathlib.Core.List.{List, [], _∷_, _++_}
 use mathlib.Core.Path.{_≡_, refl, ap}
 use Prim.Native.Nat.{ℕ, suc, _+_, _≤_}
 use native.Mathlib.Omega.{arith}
@@ -67,9 +67,16 @@ scan-fits (bytes p ∷ ps) l h =
     omega (arith, scan-fits ps (past p l) (keep-like (run p l) s h), keep-size (run p l) s, run-past p l)
 scan-fits (gap ∷ ps) l h = omega (arith, scan-fits ps (past isBlank l) h, run-past isBlank l)
 
--- the first two runs are among those that were kept
-pub first-two : (s : Scanned) → length (kept 0 s) + length (kept 1 s) ≤ keptSize s
-first-two (parts []) = omega arith
-first-two (parts (a ∷ [])) = omega arith
-first-two (parts (a ∷ b ∷ ls)) = omega arith
-first-two unlike = omega arith
+-- the first, the second and the fourth run are among those that were kept
+pub three-kept : (s : Scanned) → length (kept 0 s) + length (kept 1 s) + length (kept 3 s) ≤ keptSize s
+three-kept (parts []) = omega arith
+three-kept (parts (a ∷ [])) = omega arith
+three-kept (parts (a ∷ b ∷ [])) = omega arith
+three-kept (parts (a ∷ b ∷ c ∷ [])) = omega arith
+three-kept (parts (a ∷ b ∷ c ∷ d ∷ ls)) = omega arith
+three-kept unlike = omega arith
+
+-- the sum over two lists
+pub total-append : {A : Type 0} (f : A → ℕ) (xs ys : List A) → total f (xs ++ ys) ≡ total f xs + total f ys
+total-append f [] ys = omega arith
+total-append f (x ∷ xs) ys = omega (arith, total-append f xs ys)

@@ -1,27 +1,29 @@
 -- The signing string of a good head is no longer than the head (paper 01, "The head"). Assumes nothing.
 use borrow.Author.Tests.{eqb-true, not-true}
 use mathlib.Core.Bool.{true, false, not}
-use mathlib.Core.List.{List, [], _∷_, _++_}
-use mathlib.Core.Path.{_≡_}
+use mathlib.Core.List.{List, [], _∷_, _++_, append-nil}
+use mathlib.Core.Path.{_≡_, refl}
 use Prim.Native.Nat.{ℕ, zero, suc, _+_, _≤_}
 use native.Mathlib.Nat.{le-trans}
 use native.Mathlib.Omega.{arith}
 use lib.Dec.{eqb}
 use lib.ListN.{length, drop, length-append}
 use Rattle.octets.specs.Octets.{octets}
+use Rattle.base64.proofs.Laws.{text-length}
 use Rattle.stream.specs.Bytes.{lowered}
 use Rattle.stream.specs.Fields.{among, isDoubled, valueOf}
-use Rattle.stream.specs.Head.{headOf, headWith, statusDigits, listedNames, signingString, textRules, callerRules, headFault}
+use Rattle.stream.specs.Head.{Head, headOf, headWith, statusDigits, listedNames, signingString, textRules, callerRules, headFault}
 use Rattle.stream.specs.Limits.{headLimit}
 use Rattle.stream.specs.Lines.{Field, areFieldLines, statusScan, isStatusLine, statusOf}
+use Rattle.stream.specs.Rule.{firstBroken}
 use Rattle.stream.specs.Signatures.{sig0Scan, isSig0, listedFields, areFields, isNameList, responseStatusName, createdName, sig0Name}
 use Rattle.stream.specs.Signing.{separated, joinedFields, signingLine, signingText}
 use Rattle.stream.specs.Template.{isLike, kept}
 use Rattle.stream.specs.Terms.{Terms}
 use Rattle.stream.proofs.LineSizes.{fieldSize, field-lines-size, fields-size}
 use Rattle.stream.proofs.NameSizes.{names-size, value-size, signed-size}
-use Rattle.stream.proofs.RulesHold.{head-rules-hold}
-use Rattle.stream.proofs.ScanSizes.{total, scan-fits, first-two}
+use Rattle.stream.proofs.RulesHold.{rules-hold, front-kept}
+use Rattle.stream.proofs.ScanSizes.{total, total-append, scan-fits, three-kept}
 use Rattle.stream.proofs.Truth.{left-holds, right-holds, left-fails, right-fails, lowered-length}
 
 -- ---- the signing string, by its lines
@@ -44,10 +46,14 @@ status-size line h =
     eqb-true (length (kept 0 (statusScan line))) 3
     (right-holds (isLike (statusScan line)) (eqb (length (kept 0 (statusScan line))) 3) h)
 
--- the fixed texts of `X-Ouinet-Sig0` have 68 bytes, and `created` stands beside them
-sig0-size : (l : List ℕ) → isSig0 (sig0Scan l) ≡ true → 68 + length (kept 1 (sig0Scan l)) ≤ length l
+-- the fixed texts of `X-Ouinet-Sig0` have 68 bytes; the key has 44 characters, the signature 88, and `created` stands beside them
+sig0-size : (l : List ℕ) → isSig0 (sig0Scan l) ≡ true → 200 + length (kept 1 (sig0Scan l)) ≤ length l
 unfolding isSig0 sig0Scan
-sig0-size l h = omega (arith, first-two (sig0Scan l), scan-fits _ l (left-holds (isLike (sig0Scan l)) _ h))
+sig0-size l h =
+    let s = sig0Scan l in
+    let key = text-length 32 (kept 0 s) (search (left-holds, right-holds)) in
+    let signature = text-length 64 (kept 3 s) (search (left-holds, right-holds)) in
+    omega (arith, key, signature, three-kept s, scan-fits _ l (left-holds (isLike s) _ h))
 
 not-doubled-past : (k : ℕ) (n : List ℕ) (ns : List (List ℕ)) → isDoubled (n ∷ ns) ≡ false → isDoubled (n ∷ drop k ns) ≡ false
 unfolding isDoubled among
@@ -76,36 +82,62 @@ listed fs ns h =
 
 -- ---- the law
 
--- From four of the head's rules. The lines after the first have two bytes more than the head at most. Of these `X-Ouinet-Sig0`
--- has 68 and the digits of `created`, where the first two lines of the signing string have 35 and the same digits.
-pub signing-fits′ : (l : List ℕ) → isStatusLine (headOf l .statusLine) ≡ true → areFieldLines (headOf l .fieldLines) ≡ true
-    → isSig0 (headOf l .sig0) ≡ true → isNameList (headOf l .fields) (listedNames (headOf l)) ≡ true
-    → length (signingString (headOf l)) ≤ length l
-unfolding headOf headWith statusDigits signingString
-signing-fits′ l status lines sig0 names =
+-- four of the head's rules
+pub record Signs (l : List ℕ) : Type 0 where
+  pub status : isStatusLine (headOf l .statusLine) ≡ true
+  pub lines : areFieldLines (headOf l .fieldLines) ≡ true
+  pub sig0 : isSig0 (headOf l .sig0) ≡ true
+  pub names : isNameList (headOf l .fields) (listedNames (headOf l)) ≡ true
+
+-- the lines that a head's signature lists, with another `created`, and some lines more
+abbrev pub signedLines : Head → List ℕ → List Field → List Field
+signedLines h created more =
+    record { name = responseStatusName; value = statusDigits h }
+    ∷ record { name = createdName; value = created }
+    ∷ (joinedFields (h .fields) (listedFields (listedNames h)) ++ more)
+
+-- The lines after the first have two bytes more than the head at most. Of these `X-Ouinet-Sig0` has 200 and the digits of its `created`, where the
+-- first two lines of the signing string have 35 and the digits of theirs.
+pub lines-fit : (l created : List ℕ) (more : List Field) → Signs l → length created + total fieldSize more ≤ 160 + length (kept 1 (headOf l .sig0))
+    → length (signingText (signedLines (headOf l) created more)) ≤ length l
+unfolding headOf headWith statusDigits
+lines-fit l created more k few =
     let fs : List Field = headOf l .fields in
     let ns : List (List ℕ) = listedFields (listedNames (headOf l)) in
-    let x = listed fs (listedNames (headOf l)) names in
+    let x = listed fs (listedNames (headOf l)) (k .names) in
     omega (
       arith,
-      joined-size
-          (record { name = responseStatusName; value = statusDigits (headOf l) }
-          ∷ record { name = createdName; value = kept 1 (headOf l .sig0) }
-          ∷ joinedFields fs ns),
-      status-size (headOf l .statusLine) status,
+      few,
+      joined-size (signedLines (headOf l) created more),
+      total-append fieldSize (joinedFields fs ns) more,
+      status-size (headOf l .statusLine) (k .status),
       signed-size fs ns (x .present),
-      sig0-size (valueOf sig0Name fs) sig0,
+      sig0-size (valueOf sig0Name fs) (k .sig0),
       value-size fs sig0Name,
       names-size fs (sig0Name ∷ ns) (x .different),
-      fields-size (headOf l .fieldLines) lines,
+      fields-size (headOf l .fieldLines) (k .lines),
       field-lines-size l,
     )
 
+pub signing-fits′ : (l : List ℕ) → Signs l → length (signingString (headOf l)) ≤ length l
+unfolding signingString
+signing-fits′ l k =
+    let e = append-nil (joinedFields (headOf l .fields) (listedFields (listedNames (headOf l)))) in
+    rw e at (lines-fit l (kept 1 (headOf l .sig0)) [] k (omega arith))
+
+-- the rules of a head's text are more than these
+pub text-signs : (l : List ℕ) → firstBroken (textRules l (headOf l)) ≡ 0 → Signs l
+unfolding textRules
+text-signs l h =
+    let rules = rules-hold (textRules l (headOf l)) refl h in
+    record { status = search; lines = search; sig0 = search; names = search }
+
+pub head-text-kept : (terms : Terms) (l : List ℕ) → headFault terms l ≡ 0 → firstBroken (textRules l (headOf l)) ≡ 0
+unfolding headFault
+head-text-kept terms l h = front-kept (textRules l (headOf l)) (callerRules terms (headOf l)) h
+
 pub signing-fits : (terms : Terms) (l : List ℕ) → headFault terms l ≡ 0 → length (signingString (headOf l)) ≤ length l
-unfolding textRules callerRules
-signing-fits terms l h =
-    let rules = head-rules-hold terms l h in
-    signing-fits′ l (search) (search) (search) (search)
+signing-fits terms l h = signing-fits′ l (text-signs l (head-text-kept terms l h))
 
 -- a buffer of the head's limit has room for it
 pub signing-bound : (terms : Terms) (l : List ℕ) → headFault terms l ≡ 0 → length l ≤ headLimit → length (signingString (headOf l)) ≤ headLimit

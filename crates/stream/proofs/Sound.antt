@@ -9,9 +9,10 @@ use lib.ListN.{length}
 use borrow.Author.Tests.{le-leb, lt-leb}
 use Rattle.stream.specs.Blocks.{isWholeLine}
 use Rattle.stream.specs.Bytes.{same}
-use Rattle.stream.specs.Head.{endsHead, isWholeHead}
+use Rattle.stream.specs.Head.{Head, headOf, textRules, endsHead, isWholeHead}
 use Rattle.stream.specs.Limits.{headLimit, lineLimit, blockLimit, bodyLimit, idLimit}
 use Rattle.stream.specs.Lines.{crlf, endsWith}
+use Rattle.stream.specs.Rule.{firstBroken}
 use Rattle.stream.specs.Stream.{Show, Past, Context, head, firstLine, blockData, dataEnd, nextLine, trailer, isWhole, blockOffset}
 use Rattle.stream.specs.Trailer.{endsTrailer, isWholeTrailer}
 use Rattle.stream.proofs.Truth.{or-true}
@@ -25,7 +26,7 @@ limitOf (firstLine s) = lineLimit
 limitOf (blockData s p n) = n
 limitOf (dataEnd s p b) = 2
 limitOf (nextLine s p b) = lineLimit
-limitOf (trailer total) = headLimit
+limitOf (trailer s p total) = headLimit
 
 pub whole-at-limit : (c : Context) (l : List ℕ) → limitOf c ≤ length l → isWhole c l ≡ true
 unfolding isWhole isWholeHead isWholeLine isWholeTrailer
@@ -34,11 +35,19 @@ whole-at-limit (firstLine s) l h = rw (le-leb lineLimit (length l) h) (or-true (
 whole-at-limit (blockData s p n) l h = le-leb n (length l) h
 whole-at-limit (dataEnd s p b) l h = le-leb 2 (length l) h
 whole-at-limit (nextLine s p b) l h = rw (le-leb lineLimit (length l) h) (or-true (endsWith crlf l))
-whole-at-limit (trailer total) l h = rw (le-leb headLimit (length l) h) (or-true (endsTrailer l))
+whole-at-limit (trailer s p total) l h = rw (le-leb headLimit (length l) h) (or-true (endsTrailer l))
 
 -- ---- what is known of a context that a stream leads to
 
+-- a head's text, within its limit, that keeps the rules of a head's text
+pub record HeadText (h : Head) : Type 0 where
+  pub text : List ℕ
+  pub says : headOf text ≡ h
+  pub kept : firstBroken (textRules text (headOf text)) ≡ 0
+  pub short : length text ≤ headLimit
+
 pub record SoundShow (s : Show) : Type 0 where
+  pub head : HeadText (s .head)
   pub some : 1 ≤ s .size
   pub most : s .size ≤ blockLimit
   pub short-id : length (s .id) ≤ idLimit
@@ -56,7 +65,7 @@ Sound (firstLine s) = SoundShow s
 Sound (blockData s p n) = SoundBlock s p n
 Sound (dataEnd s p b) = SoundBlock s p (length b)
 Sound (nextLine s p b) = SoundBlock s p (length b)
-Sound (trailer total) = total ≤ bodyLimit
+Sound (trailer s p total) = SoundShow s × (total ≤ bodyLimit)
 
 pub not-whole-empty : (c : Context) → Sound c → isWhole c [] ≡ false
 unfolding isWhole isWholeHead isWholeLine isWholeTrailer endsHead endsTrailer endsWith same
@@ -65,7 +74,7 @@ not-whole-empty (firstLine s) k = refl
 not-whole-empty (blockData s p n) k = lt-leb n 0 (omega arith)
 not-whole-empty (dataEnd s p b) k = refl
 not-whole-empty (nextLine s p b) k = refl
-not-whole-empty (trailer total) k = refl
+not-whole-empty (trailer s p total) k = refl
 
 -- a section may have a byte or more
 pub limit-some : (c : Context) → Sound c → 1 ≤ limitOf c
@@ -74,4 +83,4 @@ limit-some (firstLine s) k = omega arith
 limit-some (blockData s p n) k = k .some
 limit-some (dataEnd s p b) k = omega arith
 limit-some (nextLine s p b) k = omega arith
-limit-some (trailer total) k = omega arith
+limit-some (trailer s p total) k = omega arith

@@ -4,31 +4,34 @@ use mathlib.Core.List.{List}
 use mathlib.Core.Path.{_≡_, refl}
 use Prim.Native.Nat.{ℕ, zero, suc, _+_, _*_, _≤_}
 use native.Mathlib.Omega.{arith}
-use native.Mathlib.Nat.{suc-mul, zero-mul}
+use native.Mathlib.Nat.{suc-mul, zero-mul, le-trans}
 use lib.Dec.{eqb, leb}
 use lib.ListN.{length}
 use borrow.Author.Tests.{leb-true, eqb-true}
 use Rattle.base64.specs.Base64.{isBase64}
+use Rattle.sha256.specs.Sha256.{sha256}
 use Rattle.sections.specs.Reading.{go, tell, ask, stop, Grant, granted, final}
 use Rattle.stream.specs.Blocks.{chunkSize, lineRules, lineFault}
 use Rattle.stream.specs.Bytes.{same}
-use Rattle.stream.specs.Events.{Question, Release, headAccepted, block, LastWord, closed, refused}
+use Rattle.stream.specs.Ends.{allFields, isClaimed, endsIn, endFault}
+use Rattle.stream.specs.Events.{Question, Release, headAccepted, block, LastWord, closed, complete, refused}
 use Rattle.stream.specs.Head.{Head, headOf, textRules, callerRules, injectionId, blockSize}
 use Rattle.stream.specs.Limits.{headLimit, blockLimit, bodyLimit, idLimit, timeDigits}
-use Rattle.stream.specs.Lines.{crlf}
+use Rattle.stream.specs.Lines.{crlf, Field}
 use Rattle.stream.specs.Numbers.{isDecimal}
 use Rattle.stream.specs.Ring.{Ring}
 use Rattle.stream.specs.Signatures.{isInjection, isBsigs}
 use Rattle.stream.specs.Places.{dataEndPlace, trailerPlace}
-use Rattle.stream.specs.Stream.{Show, Past, nothing, after, Context, head, firstLine, blockData, dataEnd, nextLine, trailer, isWhole, Says, announced, unlessBroken, showOf, headQuestion, acceptHead, judgeHead, judgeFirstLine, judgeDataEnd, blockOffset, bodyWith, blockQuestion, acceptBlock, judgeNextLine, judgeTrailer, judge}
+use Rattle.stream.specs.Stream.{Show, Past, nothing, after, Context, head, firstLine, blockData, dataEnd, nextLine, trailer, isWhole, Says, announced, unlessBroken, showOf, headQuestion, acceptHead, judgeHead, judgeFirstLine, judgeDataEnd, blockOffset, bodyWith, blockQuestion, acceptBlock, judgeNextLine, endQuestion, judgeEnd, judgeTrailer, judge}
 use Rattle.stream.specs.Template.{isLike, kept}
 use Rattle.stream.specs.Terms.{Terms}
 use Rattle.stream.specs.Trailer.{isTrailer}
+use Rattle.stream.proofs.EndString.{short-ends, end-fits}
 use Rattle.stream.proofs.MessageLaws.{message-length}
 use Rattle.stream.proofs.RulesHold.{rules-hold, head-rules-hold}
-use Rattle.stream.proofs.SigningSize.{signing-bound}
+use Rattle.stream.proofs.SigningSize.{signing-bound, head-text-kept}
 use Rattle.stream.proofs.Truth.{left-holds, right-holds, within}
-use Rattle.stream.proofs.Sound.{limitOf, SoundShow, SoundBlock, Sound}
+use Rattle.stream.proofs.Sound.{limitOf, HeadText, SoundShow, SoundBlock, Sound}
 
 -- ---- what is told within the limits
 
@@ -39,6 +42,7 @@ SoundRelease (block offset b) = (1 ≤ length b) × (length b ≤ blockLimit) ×
 
 abbrev pub SoundLast : LastWord → Type 0
 SoundLast (closed total) = total ≤ bodyLimit
+SoundLast (complete total) = total ≤ bodyLimit
 SoundLast (refused n at) = Unit {0}
 
 -- a message is no longer than a head may be
@@ -80,7 +84,7 @@ line-kept N due full sofar l e =
 
 announced-sound : (s : Show) (p : Past) (total n : ℕ) → SoundShow s → total ≤ bodyLimit → n ≤ s .size
     → (1 ≤ n → blockOffset s p + n ≤ bodyLimit) → Sound (announced s p total n)
-announced-sound s p total zero k t h b = t
+announced-sound s p total zero k t h b = (k, t)
 announced-sound s p total (suc n) k t h b = record { show = k; some = omega arith; most = h; body = b (omega arith) }
 
 first-sound : (s : Show) (l : List ℕ) → SoundShow s → SoundSays (judgeFirstLine s l)
@@ -116,20 +120,21 @@ next-sound s p b l k = unless-sound _ _ _ λ e.
 
 -- ---- the head
 
-show-sound : (ring : Ring) (h : Head) → isInjection (h .injection) ≡ true → isBsigs (h .bsigs) ≡ true → SoundShow (showOf ring h)
+show-sound : (ring : Ring) (h : Head) → HeadText h → isInjection (h .injection) ≡ true → isBsigs (h .bsigs) ≡ true → SoundShow (showOf ring h)
 unfolding showOf injectionId blockSize isInjection isBsigs
-show-sound ring h i b =
+show-sound ring h text i b =
     let s = h .injection in
     let t = h .bsigs in
     let id = within 1 idLimit _ (left-holds _ (isDecimal timeDigits (kept 1 s)) (right-holds (isLike s) _ i)) in
     let n = within 1 blockLimit _ (right-holds (isDecimal 5 (kept 1 t)) _ (right-holds (isBase64 32 (kept 0 t)) _ (right-holds (isLike t) _ b))) in
-    record { some = n .0; most = n .1; short-id = id .1 }
+    record { head = text; some = n .0; most = n .1; short-id = id .1 }
 
 head-sound : (terms : Terms) (l : List ℕ) → length l ≤ headLimit → SoundSays (judgeHead terms l)
 unfolding judgeHead acceptHead headQuestion textRules callerRules
 head-sound terms l k = unless-sound _ _ (acceptHead (terms .ring) (headOf l)) λ e.
     let rules = head-rules-hold terms l e in
-    (signing-bound terms l e k, (tt, show-sound (terms .ring) (headOf l) (search) (search)))
+    let text : HeadText (headOf l) = record { text = l; says = refl; kept = head-text-kept terms l e; short = k } in
+    (signing-bound terms l e k, (tt, show-sound (terms .ring) (headOf l) text (search) (search)))
 
 -- ---- any section
 
@@ -141,12 +146,38 @@ end-sound s p b l k = by (same l crlf)
     by true = k
     by false = tt
 
-trailer-sound : (total : ℕ) (l : List ℕ) → total ≤ bodyLimit → SoundSays (judgeTrailer total l)
-unfolding judgeTrailer
-trailer-sound total l k = by (isTrailer l)
+-- the question about the end has room where its head had
+end-question-sound : (s : Show) (fs : List Field) (total : ℕ) (hash : List ℕ) → HeadText (s .head) → endFault (s .head) fs total hash ≡ 0
+    → SoundQuestion (endQuestion s fs)
+unfolding endQuestion
+end-question-sound s fs total hash k e =
+    let fits = end-fits (k .text) (endsIn fs) (k .kept) (short-ends (s .head) fs total hash e) in
+    le-trans (rw (k .says) at fits) (k .short)
+
+claim-sound : (s : Show) (total : ℕ) (hash : List ℕ) (fs : List Field) → SoundShow s → total ≤ bodyLimit → SoundSays (judgeEnd s total hash fs)
+unfolding judgeEnd
+claim-sound s total hash fs k m = by (isClaimed fs)
   where
-    by : (t : Bool) → SoundSays (elim t [ true ↦ stop (closed total) | false ↦ stop (refused 6 (trailerPlace l)) ])
-    by true = k
+    by : (t : Bool)
+        → SoundSays
+        (elim t [
+          | true ↦ unlessBroken (endFault (s .head) fs total hash) 0 (ask (endQuestion s fs) (final (complete total)))
+          | false ↦ stop (closed total)
+        ])
+    by true = unless-sound _ _ (ask (endQuestion s fs) (final (complete total))) λ e. (end-question-sound s fs total hash (k .head) e, m)
+    by false = m
+
+trailer-sound : (s : Show) (p : Past) (total : ℕ) (l : List ℕ) → SoundShow s → total ≤ bodyLimit → SoundSays (judgeTrailer s p total l)
+unfolding judgeTrailer
+trailer-sound s p total l k m = by (isTrailer l)
+  where
+    by : (t : Bool)
+        → SoundSays
+        (elim t [
+          | true ↦ judgeEnd s total (sha256 (p .body)) (allFields (s .head) l)
+          | false ↦ stop (refused 6 (trailerPlace l))
+        ])
+    by true = claim-sound s total _ _ k m
     by false = tt
 
 pub judge-sound : (terms : Terms) (c : Context) (l : List ℕ) → Sound c → isWhole c l ≡ true → length l ≤ limitOf c → SoundSays (judge terms c l)
@@ -158,4 +189,4 @@ judge-sound terms (blockData s p n) l k w m =
     rw e k
 judge-sound terms (dataEnd s p b) l k w m = end-sound s p b l k
 judge-sound terms (nextLine s p b) l k w m = next-sound s p b l k
-judge-sound terms (trailer total) l k w m = trailer-sound total l k
+judge-sound terms (trailer s p total) l k w m = trailer-sound s p total l (k .0) (k .1)

@@ -7,7 +7,7 @@ use lib.ListN.{length, drop, replicate}
 use Rattle.sections.specs.Reading.{cut}
 use Rattle.sections.specs.Calls.{part}
 use Rattle.sections.specs.Leaving.{Effects, leaving}
-use Rattle.stream.specs.Events.{Question, LastWord, closed, refused}
+use Rattle.stream.specs.Events.{Question, LastWord, closed, complete, refused}
 use Rattle.stream.specs.Head.{isWholeHead}
 use Rattle.stream.specs.Stream.{Context, head, firstLine, blockData, dataEnd, nextLine, trailer, rules}
 use Rattle.stream.specs.Terms.{Terms}
@@ -36,7 +36,7 @@ withSection (firstLine s) l b = b
 withSection (blockData s p n) l b = intoBlock l b
 withSection (dataEnd s p d) l b = b
 withSection (nextLine s p d) l b = b
-withSection (trailer total) l b = intoBlock l b
+withSection (trailer s p total) l b = intoBlock l b
 
 -- "A question writes its message at the front of the question hold and nothing after it"
 unfoldable pub withMessage : Question → Buffers → Buffers
@@ -50,12 +50,13 @@ pending (firstLine s) l = 0
 pending (blockData s p n) l = length l
 pending (dataEnd s p d) l = length d
 pending (nextLine s p d) l = length d
-pending (trailer total) l = length l
+pending (trailer s p total) l = length l
 
 -- "A final refusal sets the pending bytes .. to zero and alters no other byte of any hold beyond what was gathered or asked up to it";
--- *closed* alters none
+-- *closed* and *complete* alter none
 unfoldable pub withLastWord : Context → List ℕ → LastWord → Buffers → Buffers
 withLastWord c l (closed total) b = b
+withLastWord c l (complete total) b = b
 withLastWord c l (refused n at) b = intoBlock (replicate (pending c l) 0) b
 
 abbrev pub effects : Effects Context Question LastWord Buffers

@@ -18,9 +18,11 @@ pub data Release : Type 0 where
   headAccepted : ℕ → List Field → Release
   block : ℕ → List ℕ → Release
 
--- *closed*, with the total, and *refused*, with its number and the place where the text went wrong (request #106): both are final
+-- *closed*, with the total, and *refused*, with its number and the place where the text went wrong (request #106). Request #101: "a new last
+-- word, *complete*, with the total". All three are final.
 pub data LastWord : Type 0 where
   closed : ℕ → LastWord
+  complete : ℕ → LastWord
   refused : ℕ → ℕ → LastWord
 
 -- "For 3 and 6 ..": other refusals have no place, which is written 0

@@ -13,6 +13,7 @@ pub mod Events
 pub mod Head
 pub mod Blocks
 pub mod Trailer
+pub mod Ends
 pub mod Forms
 pub mod GoodText
 pub mod Places

@@ -2,7 +2,7 @@
 use Prim.Native.Nat.{ℕ}
 
 -- A head, and a trailer, without its end is refused at this many bytes. The head buffer and the question buffer have as many at least:
--- a signing string is never longer than its head. Request #108: "Head and trailer limit to 32,768", "head and question holds to 32,768".
+-- a signing string is never longer than its head, nor is the one over Sig1. Request #108: "Head and trailer limit to 32,768", "head and question holds to 32,768".
 abbrev pub headLimit : ℕ
 headLimit = 32_768
 
@@ -41,6 +41,10 @@ sizeDigits = 8
 -- the most bytes that a body may have
 abbrev pub bodyLimit : ℕ
 bodyLimit = 4_294_967_296
+
+-- "1 to 10 digits": the size of a body, as `X-Ouinet-Data-Size` writes it (request #101)
+abbrev pub dataSizeDigits : ℕ
+dataSizeDigits = 10
 
 -- "0 to 16 records": the key ring
 abbrev pub ringLimit : ℕ

@@ -1,38 +1,43 @@
 -- The stream as a row of sections, and its plain reading (paper 01, "The plain reading"): head, then chunk line, data and
 -- data end by turns, after the 0 line the trailer. Assumes nothing.
 use mathlib.Core.Bool.{Bool, true, false}
-use mathlib.Core.List.{List, []}
+use mathlib.Core.List.{List, [], _++_}
 use Prim.Native.Nat.{ℕ, zero, suc, _+_}
 use lib.Dec.{eqb, leb}
 use lib.ListN.{length}
-use Rattle.sections.specs.Reading.{Log, Verdict, go, ask, stop, granted, Rules, reading}
+use Rattle.sections.specs.Reading.{Log, Verdict, go, ask, stop, granted, final, Rules, reading}
+use Rattle.sha256.specs.Sha256.{sha256}
 use Rattle.stream.specs.Blocks.{isWholeLine, chunkSize, lineSignature, lineFault, chained, blockMessage, offsetOf}
 use Rattle.stream.specs.Bytes.{same}
-use Rattle.stream.specs.Events.{Question, Release, headAccepted, block, LastWord, closed, refused, placeOf}
+use Rattle.stream.specs.Ends.{allFields, isClaimed, endsIn, endSignature, endFault, endString}
+use Rattle.stream.specs.Events.{Question, Release, headAccepted, block, LastWord, closed, complete, refused, placeOf}
 use Rattle.stream.specs.Head.{Head, isWholeHead, headOf, headFault, statusDigits, injectionId, blockSize, headSignature, signedOf, signingString, trustedBy}
-use Rattle.stream.specs.Lines.{crlf}
+use Rattle.stream.specs.Lines.{crlf, Field}
 use Rattle.stream.specs.Numbers.{decimalValue}
 use Rattle.stream.specs.Places.{headPlace, linePlace, dataEndPlace, trailerPlace}
 use Rattle.stream.specs.Ring.{Ring, numberOf}
 use Rattle.stream.specs.Terms.{Terms}
 use Rattle.stream.specs.Trailer.{isWholeTrailer, isTrailer}
 
--- what the head fixes for all that comes after it: the id, N, and the number of the key's record in the ring
+-- what the head fixes for all that comes after it: the id, N, the number of the key's record in the ring, and all that it says, which the end of
+-- the show is held against
 pub record Show : Type 0 where
   pub id : List ℕ
   pub size : ℕ
   pub keyNumber : ℕ
+  pub head : Head
 
--- what came before a block: how many blocks, and the hash of the last of them, nothing where there is none
+-- what came before a block: how many blocks, the hash of the last of them, nothing where there is none, and the body: all their bytes
 pub record Past : Type 0 where
   pub blocks : ℕ
   pub hash : List ℕ
+  pub body : List ℕ
 
 abbrev pub nothing : Past
-nothing = record { blocks = 0; hash = [] }
+nothing = record { blocks = 0; hash = []; body = [] }
 
 abbrev pub after : Past → List ℕ → Past
-after p b = record { blocks = suc (p .blocks); hash = chained (p .hash) b }
+after p b = record { blocks = suc (p .blocks); hash = chained (p .hash) b; body = p .body ++ b }
 
 -- what the sections before tell about the section to come
 pub data Context : Type 0 where
@@ -43,8 +48,8 @@ pub data Context : Type 0 where
   dataEnd : Show → Past → List ℕ → Context
   -- the line after that block, which carries its signature
   nextLine : Show → Past → List ℕ → Context
-  -- the body has so many bytes
-  trailer : ℕ → Context
+  -- the blocks are over, and the body has so many bytes
+  trailer : Show → Past → ℕ → Context
 
 -- a section is whole at its end, or at its length limit
 unfoldable pub isWhole : Context → List ℕ → Bool
@@ -53,7 +58,7 @@ isWhole (firstLine s) l = isWholeLine l
 isWhole (blockData s p n) l = leb n (length l)
 isWhole (dataEnd s p b) l = leb 2 (length l)
 isWhole (nextLine s p b) l = isWholeLine l
-isWhole (trailer total) l = isWholeTrailer l
+isWhole (trailer s p total) l = isWholeTrailer l
 
 abbrev pub Says : Type 0
 Says = Verdict Context Question Release LastWord
@@ -65,14 +70,14 @@ unlessBroken (suc n) place says = stop (refused (suc n) (placeOf (suc n) place))
 
 -- after a line that announces n bytes: a block, or, "size 0 ends the body", the trailer of a body of `total` bytes
 abbrev pub announced : Show → Past → ℕ → ℕ → Context
-announced s p total zero = trailer total
+announced s p total zero = trailer s p total
 announced s p total (suc n) = blockData s p (suc n)
 
 -- ---- what each whole section says
 
 -- "A good head gives question: signing string, Sig0's signature, the record found"; a yes gives *head accepted*
 unfoldable pub showOf : Ring → Head → Show
-showOf ring h = record { id = injectionId h; size = blockSize h; keyNumber = numberOf (trustedBy ring h) }
+showOf ring h = record { id = injectionId h; size = blockSize h; keyNumber = numberOf (trustedBy ring h); head = h }
 
 unfoldable pub headQuestion : Ring → Head → Question
 headQuestion ring h = record { message = signingString h; signature = headSignature h; keyNumber = numberOf (trustedBy ring h) }
@@ -118,9 +123,27 @@ unfoldable pub judgeNextLine : Show → Past → List ℕ → List ℕ → Says
 judgeNextLine s p b l =
     unlessBroken (lineFault (s .size) true (eqb (length b) (s .size)) (bodyWith s p b) l) (linePlace l) (acceptBlock s p b l)
 
--- "A good trailer gives *closed*"
-unfoldable pub judgeTrailer : ℕ → List ℕ → Says
-judgeTrailer total l = elim (isTrailer l) [ true ↦ stop (closed total) | false ↦ stop (refused 6 (trailerPlace l)) ]
+-- "then a question over Sig1", with the head's record, since the ring is read only when the head is judged
+unfoldable pub endQuestion : Show → List Field → Question
+endQuestion s fs =
+    record { message = endString (s .head) (endsIn fs); signature = endSignature (endsIn fs); keyNumber = s .keyNumber }
+
+-- The end of the show, by the fields of its head and its trailer, where the body has `total` bytes and the SHA-256 `hash`: request #101's "none of
+-- the three, *closed* as today", the rules of the end, and "A yes gives a new last word, *complete*, with the total".
+unfoldable pub judgeEnd : Show → ℕ → List ℕ → List Field → Says
+judgeEnd s total hash fs =
+    elim (isClaimed fs) [
+      | true ↦ unlessBroken (endFault (s .head) fs total hash) 0 (ask (endQuestion s fs) (final (complete total)))
+      | false ↦ stop (closed total)
+    ]
+
+-- "A good trailer gives *closed*", and since request #101 the end that it claims is judged: "At the trailer's end"
+unfoldable pub judgeTrailer : Show → Past → ℕ → List ℕ → Says
+judgeTrailer s p total l =
+    elim (isTrailer l) [
+      | true ↦ judgeEnd s total (sha256 (p .body)) (allFields (s .head) l)
+      | false ↦ stop (refused 6 (trailerPlace l))
+    ]
 
 unfoldable pub judge : Terms → Context → List ℕ → Says
 judge terms head l = judgeHead terms l
@@ -128,7 +151,7 @@ judge terms (firstLine s) l = judgeFirstLine s l
 judge terms (blockData s p n) l = go (dataEnd s p l)
 judge terms (dataEnd s p b) l = judgeDataEnd s p b l
 judge terms (nextLine s p b) l = judgeNextLine s p b l
-judge terms (trailer total) l = judgeTrailer total l
+judge terms (trailer s p total) l = judgeTrailer s p total l
 
 -- ---- the plain reading
 

@@ -8,7 +8,7 @@ use native.Mathlib.Omega.{arith}
 use Rattle.octets.specs.Choice.{pick}
 use Rattle.sections.specs.Calls.{isOfCall}
 use Rattle.sections.specs.Reading.{Event, question, message, last, Log}
-use Rattle.stream.specs.Events.{Question, Release, headAccepted, block, LastWord, closed, refused}
+use Rattle.stream.specs.Events.{Question, Release, headAccepted, block, LastWord, closed, complete, refused}
 use Rattle.state.specs.declared.word.Word.{Word}
 use Rattle.state.specs.declared.word.Word.the-variants as W
 use Rattle.tally.specs.declared.Tally.{Tally}
@@ -56,6 +56,7 @@ after-shown c (W.Question n key) = same-shown c
 after-shown c (W.Head status) = same-shown c
 after-shown c (W.Block offset n) = tally-same (grown-cut (c .blocks) 1) (grown-cut (c .bytes) n) (kept (c .closed)) (kept (c .refused))
 after-shown c (W.Closed total) = tally-same (kept (c .blocks)) (kept (c .bytes)) (grown-cut (c .closed) 1) (kept (c .refused))
+after-shown c (W.Complete total) = tally-same (kept (c .blocks)) (kept (c .bytes)) (grown-cut (c .closed) 1) (kept (c .refused))
 after-shown c (W.Refused why) = refused-shown c (isOfCall (why .number))
 
 -- ---- many words
@@ -85,6 +86,7 @@ event-as-word (question q) = refl
 event-as-word (message (headAccepted status fields)) = refl
 event-as-word (message (block offset bytes)) = refl
 event-as-word (last (closed total)) = refl
+event-as-word (last (complete total)) = refl
 event-as-word (last (refused n at)) = refl
 
 -- a log's words count what its events count

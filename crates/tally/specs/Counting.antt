@@ -31,13 +31,14 @@ withRefused t = record { blocks = t .blocks; bytes = t .bytes; closed = t .close
 abbrev pub refusedBy : Tally → ℕ → Tally
 refusedBy t n = pick (isOfCall n) t (withRefused t)
 
--- "changed in place after each event"; "No other event changes it"
+-- "changed in place after each event"; "No other event changes it". Request #101, of *complete*: "it is final and the log counts it as closed"
 unfoldable pub talliedAfter : Tally → Word → Tally
 talliedAfter t W.More = t
 talliedAfter t (W.Question n key) = t
 talliedAfter t (W.Head status) = t
 talliedAfter t (W.Block offset n) = withBlock t n
 talliedAfter t (W.Closed total) = withClosed t
+talliedAfter t (W.Complete total) = withClosed t
 talliedAfter t (W.Refused why) = refusedBy t (why .number)
 
 -- the tally after the words of many calls, in their order

@@ -6,7 +6,7 @@ use Rattle.octets.specs.Choice.{pick}
 use Rattle.sections.specs.Calls.{isOfCall}
 use Rattle.sections.specs.Reading.{Event, question, message, last, Log}
 use Rattle.refusals.specs.Refusals.{placed}
-use Rattle.stream.specs.Events.{Question, Release, headAccepted, block, LastWord, closed, refused}
+use Rattle.stream.specs.Events.{Question, Release, headAccepted, block, LastWord, closed, complete, refused}
 use Rattle.state.specs.declared.word.Word.{Word}
 use Rattle.state.specs.declared.word.Word.the-variants as W
 use Rattle.tally.specs.Counting.{largest}
@@ -44,12 +44,14 @@ shown c =
 abbrev pub refusalCounts : ℕ → Counts
 refusalCounts n = pick (isOfCall n) nothing (counts 0 0 0 1)
 
--- what an event adds: a block is one block and its bytes; each last word is one stream
+-- what an event adds: a block is one block and its bytes; each last word is one stream, and *complete* counts as
+-- closed (request #101)
 unfoldable pub eventCounts : Event Question Release LastWord → Counts
 eventCounts (question q) = nothing
 eventCounts (message (headAccepted status fields)) = nothing
 eventCounts (message (block offset bytes)) = counts 1 (length bytes) 0 0
 eventCounts (last (closed total)) = counts 0 0 1 0
+eventCounts (last (complete total)) = counts 0 0 1 0
 eventCounts (last (refused n at)) = refusalCounts n
 
 -- a log's events, of one stream or of many after one another
@@ -66,6 +68,7 @@ wordCounts (W.Question n key) = nothing
 wordCounts (W.Head status) = nothing
 wordCounts (W.Block offset n) = counts 1 n 0 0
 wordCounts (W.Closed total) = counts 0 0 1 0
+wordCounts (W.Complete total) = counts 0 0 1 0
 wordCounts (W.Refused why) = refusalCounts (why .number)
 
 unfoldable pub wordsCount : List Word → Counts
@@ -78,6 +81,7 @@ wordOf (question q) = W.Question (length (q .message)) (q .keyNumber)
 wordOf (message (headAccepted status fields)) = W.Head status
 wordOf (message (block offset bytes)) = W.Block (record { 0 = offset }) (length bytes)
 wordOf (last (closed total)) = W.Closed total
+wordOf (last (complete total)) = W.Complete total
 wordOf (last (refused n at)) = W.Refused (placed n at)
 
 unfoldable pub wordsOf : Log Question Release LastWord → List Word

@@ -3,7 +3,7 @@ use state::Word;
 ghost use mathlib.Core.Path.{_≡_};
 ghost use Rattle.tally.specs.Counting.{noCounts, grown as grownBy, withBlock, withClosed, withRefused, refusedBy, talliedAfter};
 
-// Blocks, the bytes released in them, streams closed, and streams finally refused.
+// Blocks, the bytes released in them, streams closed, complete ones among them, and streams finally refused.
 pub struct Tally {
     pub blocks: u64,
     pub bytes: u64,
@@ -43,7 +43,7 @@ fn with_block(t: Tally, length: usize) -> Tally
     tally
 }
 
-// One stream more that closed.
+// One stream more that closed, or was complete.
 fn with_closed(t: Tally) -> Tally
     ensures { λ r. ⌜ r ≡ withClosed t ⌝ }
 {
@@ -74,6 +74,7 @@ pub fn counted(t: Tally, word: Word) -> Tally
         Word::Head(_) => t,
         Word::Block { offset: _, length } => with_block(t, length),
         Word::Closed(_) => with_closed(t),
+        Word::Complete(_) => with_closed(t),
         Word::Refused(why) => with_refused(t, why.number),
     }
 }

@@ -2,11 +2,14 @@
 // is computed by other implementations of the same documents (see expected.py).
 mod digests;
 mod lines;
+mod parts;
 mod texts;
 
 fn main() {
     digests::messages();
     digests::chain();
+    parts::messages();
+    parts::in_parts();
     texts::short_texts();
     texts::keys();
     texts::signatures();

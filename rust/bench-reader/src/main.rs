@@ -1,15 +1,21 @@
 //! Times the proved library beside the second reader: the same stream in the same pieces, every signature verified by the same
-//! routine, and the same bytes out. Both are built for release; turns alternate, and the medians and their ratio are printed.
+//! routine, and the same bytes out. The stream has the fields about its end, so both hash each block for its signature (SHA-512) and the
+//! whole body for its end (SHA-256), and both must end in *complete*. Both are built for release; turns alternate, and the medians and their
+//! ratio are printed.
 
 #![forbid(unsafe_code)]
 
+use oui_sign::show::Show;
 use ouinet_reader::{Event, Ring};
 use second::event::Event as OtherEvent;
 use second::files::parse_ring;
+use sodium::Signer;
 use std::time::Instant;
-use streams::long;
+use streams::example::TEST_SEED;
+use streams::options::Options;
+use streams::plan::{ring_text, RingRecord};
 
-const BLOCK_SIZE: usize = 65_536;
+const URI: &str = "https://example.com/long";
 const MIB: u64 = 1 << 20;
 /// Body bytes, piece length, turns.
 const RUNS: [(u64, usize, usize); 4] = [(64 * MIB, 65_536, 7), (64 * MIB, 1400, 5), (16 * MIB, 16, 3), (4 * MIB, 1, 3)];
@@ -29,6 +35,28 @@ impl Out {
             self.sum = self.sum.rotate_left(5) ^ number;
         }
     }
+
+    /// The end was checked, and the body has so many bytes.
+    fn whole(self, total: u64) -> Self {
+        assert_eq!(self.bytes, total);
+        self
+    }
+}
+
+/// A body in which no two blocks are alike.
+fn body(length: u64) -> Vec<u8> {
+    (0..length / 8).flat_map(|count| count.wrapping_mul(0x9e37_79b9_7f4a_7c15).to_le_bytes()).collect()
+}
+
+/// The ring's text, and the stream of a body: blocks as long as can be, and the three fields about the end in the trailer.
+fn material(body: &[u8]) -> (Vec<u8>, Vec<u8>) {
+    let signer = Signer::from_seed(&TEST_SEED);
+    let ring = ring_text(&[RingRecord { key: signer.public, first: 0, last: u64::MAX }]);
+    let words = ["--uri", URI, "--id", "long", "--ts", "1700000000", "--ends", "trailer"].map(str::to_string);
+    let show = Options::parse(&words, "").and_then(|mut options| Show::from(&mut options)).expect("good words");
+    let mut stream = Vec::new();
+    show.stream(signer).expect("a good head").write(body, &mut stream).expect("a stream in memory");
+    (ring, stream)
 }
 
 /// Through the proved library, with the calls made as a program makes them that gets pieces from a network.
@@ -42,12 +70,14 @@ fn ours(stream: &[u8], ring: &[u8], uri: &[u8], piece: usize) -> Out {
             rest = &rest[fed.taken..];
             let good = match fed.event {
                 Some(Event::Question(question)) => sodium::verify(question.key, question.message, question.signature),
-                Some(Event::Closed { .. }) => return out,
                 None => break,
                 Some(other) => panic!("{other:?}"),
             };
-            if let Event::Block { bytes, .. } = reader.answer(good).expect("a question is open") {
-                out.take(bytes);
+            match reader.answer(good).expect("a question is open") {
+                Event::HeadAccepted { .. } => (),
+                Event::Block { bytes, .. } => out.take(bytes),
+                Event::Complete { total } => return out.whole(total),
+                other => panic!("{other:?}"),
             }
         }
     }
@@ -68,12 +98,15 @@ fn theirs(stream: &[u8], ring: &[u8], uri: &[u8], piece: usize) -> Out {
                 Some(OtherEvent::Question(question)) => {
                     sodium::verify(&ring[question.record].key, &question.message, &question.signature)
                 }
-                Some(OtherEvent::Closed { .. }) => return out,
                 None => break,
                 Some(other) => panic!("{other:?}"),
             };
-            reader.answer(good).expect("a question is open");
-            out.take(reader.block());
+            match reader.answer(good).expect("a question is open") {
+                OtherEvent::HeadAccepted { .. } => (),
+                OtherEvent::Block { .. } => out.take(reader.block()),
+                OtherEvent::Complete { total } => return out.whole(total),
+                other => panic!("{other:?}"),
+            }
         }
     }
     panic!("the stream has no end");
@@ -91,15 +124,13 @@ fn median(mut times: Vec<f64>) -> f64 {
 }
 
 fn main() {
-    let (ring, uri) = (long::ring(), long::uri());
     println!("body in MiB, pieces of, ours in ms, the second reader's in ms, ratio");
     for (length, piece, turns) in RUNS {
-        let mut stream = Vec::new();
-        long::write_stream(length, BLOCK_SIZE, &mut stream).expect("a stream in memory");
+        let (ring, stream) = material(&body(length));
         let (mut our_times, mut their_times) = (Vec::new(), Vec::new());
         for _ in 0..turns {
-            let (our_time, our_out) = timed(|| ours(&stream, &ring, &uri, piece));
-            let (their_time, their_out) = timed(|| theirs(&stream, &ring, &uri, piece));
+            let (our_time, our_out) = timed(|| ours(&stream, &ring, URI.as_bytes(), piece));
+            let (their_time, their_out) = timed(|| theirs(&stream, &ring, URI.as_bytes(), piece));
             assert_eq!(our_out, their_out);
             assert_eq!(our_out.bytes, length);
             our_times.push(our_time);

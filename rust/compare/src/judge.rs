@@ -35,6 +35,12 @@ pub fn is_other_show(outcome: &Outcome) -> bool {
     outcome.output == b"refused 16\n"
 }
 
+/// Whether what the stream says about its end was checked: found right, or refused for one of the faults that nothing else has.
+pub fn is_end_checked(outcome: &Outcome) -> bool {
+    let line = last_line(outcome);
+    line.starts_with("complete ") || ["refused 13", "refused 14", "refused 15"].contains(&line.as_str())
+}
+
 /// Whether the head was accepted.
 pub fn accepts_head(outcome: &Outcome) -> bool {
     outcome.output.split(|&byte| byte == b'\n').any(|line| line.starts_with(b"head "))
@@ -211,6 +217,22 @@ mod tests {
 
     const STREAM: &[u8] =
         b"HTTP/1.1 200 OK\r\nX-Ouinet-URI2: a\r\nx-ouinet-URI:\t b \r\nA: b\r\n\r\nX-Ouinet-URI: c\r\n";
+
+    fn said(output: &str) -> Outcome {
+        Outcome { status: Some(0), output: output.as_bytes().to_vec(), errors: Vec::new(), body: Vec::new() }
+    }
+
+    #[test]
+    fn ends_that_were_checked() {
+        for output in ["question 303\ncomplete 12\n", "complete 0\n", "refused 13\n", "refused 14\n", "refused 15\n"] {
+            assert!(is_end_checked(&said(output)), "{output}");
+        }
+        for output in
+            ["", "closed 12\n", "question 303\n", "refused 10\n", "refused 12\n", "refused 1\n", "refused 16\n"]
+        {
+            assert!(!is_end_checked(&said(output)), "{output}");
+        }
+    }
 
     #[test]
     fn lines_about_another_show() {

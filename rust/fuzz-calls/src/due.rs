@@ -21,6 +21,7 @@ pub fn word_of(word: &Word) -> u8 {
         Word::HeadAccepted { .. } => raw::HEAD,
         Word::Block { .. } => raw::BLOCK,
         Word::Closed { .. } => raw::CLOSED,
+        Word::Complete { .. } => raw::COMPLETE,
         Word::Refused(_) => raw::REFUSED,
     }
 }
@@ -32,7 +33,7 @@ pub fn result_of(outcome: &Outcome) -> [u8; raw::RESULT_SIZE] {
         Word::Question(question) => (question.message.len() as u64, question.record as u64),
         Word::HeadAccepted { status } => (u64::from(*status), 0),
         Word::Block { offset, length } => (*offset, u64::from(*length)),
-        Word::Closed { total } => (*total, 0),
+        Word::Closed { total } | Word::Complete { total } => (*total, 0),
         Word::Refused(refusal) => (u64::from(refusal.number), refusal.at.unwrap_or(0) as u64),
     };
     let numbers = [u64::from(word_of(&outcome.word)), outcome.taken as u64, first, second];
@@ -48,11 +49,9 @@ pub fn result_of(outcome: &Outcome) -> [u8; raw::RESULT_SIZE] {
 
 /// Counts a word.
 pub fn count(word: &Word, tally: &mut Tally) {
-    match word {
-        Word::Refused(refusal) => {
-            tally.refusals[usize::from(refusal.number)] += 1;
-            tally.places += u64::from(refusal.at.is_some());
-        }
-        _ => tally.words[usize::from(word_of(word))] += 1,
+    tally.words[usize::from(word_of(word))] += 1;
+    if let Word::Refused(refusal) = word {
+        tally.refusals[usize::from(refusal.number)] += 1;
+        tally.places += u64::from(refusal.at.is_some());
     }
 }

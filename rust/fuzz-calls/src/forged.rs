@@ -34,10 +34,13 @@ const NUMBERS: [u64; 21] = [
     u64::MAX,
 ];
 /// Where the state has its numbers: phase, two counts, accepted, status, block size, key, the id's length, block number,
-/// released.
-const PLACES: [usize; 10] = [0, 8, 16, 24, 32, 40, 48, 120, 128, 328];
-/// A phase beyond the last one.
-const NO_PHASE: u64 = 10;
+/// released; then, of the hash of the body, two of its eight words, the first bytes that wait for the rest of a unit, and a count.
+const PLACES: [usize; 14] = [0, 8, 16, 24, 32, 40, 48, 120, 128, 328, 336, 392, 400, 464];
+/// The phase in which the end of the show is in question, and the one in which it is complete. There is none beyond.
+const END_ASKED: u64 = 10;
+const COMPLETE: u64 = 11;
+/// Phases are drawn below this, some of them beyond the last.
+const MOST_PHASE: usize = 14;
 
 /// Makes some calls on forged states, from the buffers as they are.
 pub fn check(buffers: &Buffers, material: &Material, rng: &mut Rng, tally: &mut Tally) -> Result<(), String> {
@@ -50,15 +53,17 @@ pub fn check(buffers: &Buffers, material: &Material, rng: &mut Rng, tally: &mut 
     Ok(())
 }
 
-/// Changes the state: all of it, some bytes, or some numbers.
+/// Changes the state: all of it, some bytes, some numbers, or its phase to one about an end that nobody has come to.
 fn forge(buffers: &mut Buffers, rng: &mut Rng) {
     let length = buffers.state.len();
     let state = buffers.state.lend(length);
-    match rng.below(4) {
+    let put =
+        |state: &mut [u8], place: usize, number: u64| state[place..place + 8].copy_from_slice(&number.to_le_bytes());
+    match rng.below(5) {
         0 => {
             let bytes = rng.bytes(raw::STATE_SIZE);
             state[..raw::STATE_SIZE].copy_from_slice(&bytes);
-            state[..8].copy_from_slice(&(rng.below(12) as u64).to_le_bytes());
+            put(state, 0, rng.below(MOST_PHASE) as u64);
         }
         1 => {
             for _ in 0..rng.between(1, 6) {
@@ -66,11 +71,17 @@ fn forge(buffers: &mut Buffers, rng: &mut Rng) {
                 state[place] = rng.byte();
             }
         }
+        2 => {
+            put(state, 0, *rng.pick(&[END_ASKED, COMPLETE]));
+            // The trailer's bytes and the body's length, or the total
+            put(state, 8, *rng.pick(&NUMBERS));
+            put(state, 16, *rng.pick(&NUMBERS));
+        }
         _ => {
             for _ in 0..rng.between(1, 4) {
                 let place = *rng.pick(&PLACES);
-                let number = if place == 0 { rng.below(12) as u64 } else { *rng.pick(&NUMBERS) };
-                state[place..place + 8].copy_from_slice(&number.to_le_bytes());
+                let number = if place == 0 { rng.below(MOST_PHASE) as u64 } else { *rng.pick(&NUMBERS) };
+                put(state, place, number);
             }
         }
     }
@@ -110,7 +121,8 @@ fn step(buffers: &mut Buffers, material: &Material, rng: &mut Rng) -> Result<(),
     }
     let due = match first_number(buffers.state.get()) {
         _ if short => Some(2),
-        NO_PHASE.. => Some(1),
+        COMPLETE.. => Some(1),
+        END_ASKED if !matches!(call, Call::Answer(_)) => Some(1),
         _ => None,
     };
     let before = buffers.clone();
@@ -130,7 +142,7 @@ fn check_word(now: &Buffers, before: &Buffers, call: &Call, word: u8, due: Optio
     let outcome = Outcome::of(&now.result_bytes());
     same("the word", &outcome.word, &u64::from(word))?;
     let piece = if let Call::Feed { piece, .. } = call { piece.len() } else { 0 };
-    if word > raw::REFUSED || outcome.taken > piece as u64 {
+    if word > raw::COMPLETE || outcome.taken > piece as u64 {
         return Err(format!("word {word}, {} taken of {piece} bytes", outcome.taken));
     }
     let (named, size) = match word {

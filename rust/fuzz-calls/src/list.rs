@@ -8,6 +8,7 @@ use crate::tally::Tally;
 use ouinet_reader::raw;
 use second::calls::{Calls, Contents, Outcome, Word};
 use second::event::Refusal;
+use second::plain::Kind;
 use second::ring::Record;
 use streams::asked::other_uri;
 use streams::head;
@@ -17,8 +18,10 @@ use streams::rng::Rng;
 const MOST_PIECE: [usize; 8] = [1, 2, 5, 20, 100, 600, 5000, usize::MAX];
 /// A stream of more bytes is read in few calls, since the second reader starts afresh at each. A head or trailer of any length is short.
 const LONG: usize = 40_000;
+/// Some lists hurry to the last bytes of their stream, no more than so many, since small pieces alone seldom come to a trailer.
+const LAST_PART: usize = 900;
 /// Names that are asked for beside those that the head has and lists.
-const NAMES: [&[u8]; 9] = [
+const NAMES: [&[u8]; 12] = [
     b"X-Ouinet-URI",
     b"x-ouinet-sig0",
     b"Transfer-Encoding",
@@ -28,6 +31,9 @@ const NAMES: [&[u8]; 9] = [
     b"Vary",
     b"",
     b"X-Ouinet-Version ",
+    b"Digest",
+    b"X-Ouinet-Data-Size",
+    b"x-ouinet-sig1",
 ];
 
 /// A ring as the library is lent it, and as the second reader is told.
@@ -46,6 +52,8 @@ pub struct List<'a> {
     material: &'a Material,
     rng: &'a mut Rng,
     most_piece: usize,
+    /// Up to this place of the stream a feed has all that comes before it.
+    hurry: usize,
     buffers: Buffers,
     /// What lay in the holds at first.
     first: Contents,
@@ -64,7 +72,8 @@ impl<'a> List<'a> {
             question: buffers.question.get().to_vec(),
         };
         let most_piece = if material.stream.len() > LONG { usize::MAX } else { *rng.pick(&MOST_PIECE) };
-        List { material, rng, most_piece, buffers, first, calls: Calls::new(), place: 0 }
+        let hurry = if rng.one_in(2) { material.stream.len().saturating_sub(rng.below(LAST_PART)) } else { 0 };
+        List { material, rng, most_piece, hurry, buffers, first, calls: Calls::new(), place: 0 }
     }
 
     /// Makes the calls, up to a few after the last event.
@@ -121,6 +130,7 @@ impl<'a> List<'a> {
             tally.late_uris += u64::from(is_late_uri && !leaves_all(&outcome.word));
             let is_accepted = matches!(outcome.word, Word::HeadAccepted { .. });
             tally.longer += u64::from(is_accepted && head::is_longer(self.calls.bytes()));
+            tally.ends += u64::from(matches!(outcome.word, Word::Question(_)) && self.is_at_end());
         }
         self.buffers.check()?;
         self.check_block()?;
@@ -131,6 +141,11 @@ impl<'a> List<'a> {
     fn is_late_uri(&self, call: &Call) -> bool {
         let is_other = matches!(call, Call::Feed { uri, .. } if *uri != self.material.uri);
         is_other && !self.calls.reading().events.is_empty()
+    }
+
+    /// Whether the trailer has come, so that a question is about the end of the show.
+    fn is_at_end(&self) -> bool {
+        matches!(self.calls.reading().sections.last(), Some((Kind::Trailer, _)))
     }
 
     /// Mostly what is due; now and then anything.
@@ -155,6 +170,7 @@ impl<'a> List<'a> {
         let rest = &self.material.stream[self.place..];
         let length = match self.rng.below(12) {
             0 => 0,
+            _ if self.place < self.hurry => self.hurry - self.place,
             1..=3 => near_line_end(rest, self.rng),
             4 if self.rng.one_in(4) => rest.len(),
             _ => self.rng.between(1, self.most_piece.min(rest.len().max(1))).min(rest.len()),

@@ -6,13 +6,14 @@ use second::ring::Record;
 use streams::asked;
 use streams::case::{Answering, Case};
 use streams::damage;
+use streams::ends;
 use streams::head;
 use streams::longer;
 use streams::plan::{ring_text, Built};
 use streams::random;
 use streams::repeated;
 use streams::rng::Rng;
-use streams::rules::{self, Rule};
+use streams::rules::{self, Rule, Spot};
 use streams::sequence::{Group, Sequence};
 use streams::wrong_text;
 
@@ -56,7 +57,7 @@ impl Material {
 
 /// What materials are drawn from.
 pub struct Pool {
-    /// The example, each rule broken on it, both sides of each limit, repeated fields, asked URIs, and longer heads.
+    /// The example, each rule broken on it, both sides of each limit, repeated fields, asked URIs, longer heads, and ends of shows.
     fixed: Vec<Material>,
     small: Vec<Built>,
     hits: Vec<damage::Hit>,
@@ -65,7 +66,8 @@ pub struct Pool {
 
 impl Pool {
     pub fn new() -> Self {
-        let groups = [Group::Example, Group::Rules, Group::Bounds, Group::Repeated, Group::Asked, Group::Longer];
+        let groups =
+            [Group::Example, Group::Rules, Group::Bounds, Group::Repeated, Group::Asked, Group::Longer, Group::Ends];
         let small = damage::streams();
         Pool {
             fixed: Sequence::new(1, &groups).map(Material::of_case).collect(),
@@ -76,23 +78,26 @@ impl Pool {
     }
 
     pub fn draw(&self, rng: &mut Rng) -> Material {
-        match rng.below(13) {
+        match rng.below(20) {
             0 | 1 => rng.pick(&self.fixed).clone(),
             2 | 3 => Material::of_case(damage::case(*rng.pick(&self.hits), &self.small, rng)),
             4 => Material::of_built("a small stream", rng.pick(&self.small)),
-            5 => self.broken(rng),
+            5 => self.broken(|_| true, rng),
+            16 => self.broken(|rule| !rule.spots.contains(&Spot::Head), rng),
             6 => Material::of_case(damage::several(&random::full_plan(rng).build(), rng)),
             7 => Material::of_case(wrong_text::case(rng)),
             8 | 9 => Material::of_case(repeated::case(rng)),
-            10 => Material::of_case(asked::case(&self.rules, rng)),
+            10 | 17 => Material::of_case(asked::case(&self.rules, rng)),
             11 => Material::of_case(longer::case(rng)),
+            12..=15 => Material::of_case(ends::case(rng)),
             _ => Material::of_built("a random stream", &random::plan(rng).build()),
         }
     }
 
-    /// A rule broken on a random stream.
-    fn broken(&self, rng: &mut Rng) -> Material {
-        let rule = rng.pick(&self.rules);
+    /// A rule of some kind broken on a random stream.
+    fn broken(&self, is_of_kind: impl Fn(&Rule) -> bool, rng: &mut Rng) -> Material {
+        let rules: Vec<&Rule> = self.rules.iter().filter(|rule| is_of_kind(rule)).collect();
+        let rule = *rng.pick(&rules);
         let spot = *rng.pick(&rule.spots);
         let plan = random::full_plan(rng);
         Material::of_case(rule.case(spot, &plan, Answering::AllYes, rng))

@@ -6,12 +6,14 @@ use std::fmt;
 pub struct Tally {
     pub lists: u64,
     pub calls: u64,
-    /// more, question, head, block, closed.
-    pub words: [u64; 5],
+    /// more, question, head, block, closed, refused, complete.
+    pub words: [u64; 7],
     /// By the refusal's number.
     pub refusals: [u64; 17],
     /// Refusals that tell where the text went wrong.
     pub places: u64,
+    /// Questions about the end of a show.
+    pub ends: u64,
     /// Calls whose state or result was too short.
     pub too_short: u64,
     /// Calls on states that no call wrote.
@@ -38,6 +40,7 @@ impl Tally {
         self.longer += other.longer;
         self.late_uris += other.late_uris;
         self.places += other.places;
+        self.ends += other.ends;
         for (mine, theirs) in self.words.iter_mut().zip(other.words) {
             *mine += theirs;
         }
@@ -49,11 +52,12 @@ impl Tally {
 
 impl fmt::Display for Tally {
     fn fmt(&self, out: &mut fmt::Formatter) -> fmt::Result {
-        let [more, question, head, block, closed] = self.words;
+        let [more, question, head, block, closed, _, complete] = self.words;
         writeln!(out, "{} lists, {} calls, {} more on forged states", self.lists, self.calls, self.forged)?;
-        writeln!(out, "more {more}, question {question}, head {head}, block {block}, closed {closed}")?;
+        write!(out, "more {more}, question {question}, {} of them about an end, ", self.ends)?;
+        writeln!(out, "head {head}, block {block}, closed {closed}, complete {complete}")?;
         write!(out, "refused")?;
-        for number in (1..=12).chain([16]) {
+        for number in 1..=16 {
             write!(out, " {number}: {}{}", self.refusals[number], if number < 16 { "," } else { "" })?;
         }
         writeln!(out, "\nrefusals with a place {}", self.places)?;

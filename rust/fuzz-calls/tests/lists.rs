@@ -2,6 +2,7 @@
 
 use fuzz_calls::material::Pool;
 use fuzz_calls::tally::Tally;
+use ouinet_reader::raw;
 
 const SEED: u64 = 1;
 
@@ -26,13 +27,15 @@ fn some_lists() {
     assert!(tally.repeated >= 100, "only {} counts were above 1", tally.repeated);
     assert!(tally.longer >= 60, "only {} accepted heads were longer than before", tally.longer);
     assert!(tally.refusals[16] >= 100, "only {} heads were another show's", tally.refusals[16]);
+    assert!(tally.ends >= 60, "only {} questions were about the end of a show", tally.ends);
+    assert!(tally.words[usize::from(raw::COMPLETE)] >= 50, "only {} shows were complete", tally.words[6]);
     assert!(tally.late_uris >= 1000, "only {} feeds after the head had another URI", tally.late_uris);
 }
 
 #[test]
 fn some_more_lists() {
     let tally = run(2000, 2000);
-    for number in [1, 2, 3, 4, 5, 6, 7, 8, 10, 11, 12, 16] {
+    for number in [1, 2, 3, 4, 5, 6, 7, 8, 10, 11, 12, 13, 14, 15, 16] {
         assert!(tally.refusals[number] > 0, "refusal {number} never came");
     }
 }

@@ -25,6 +25,7 @@ fn members(reader: &Reader, event: &Event) -> String {
             format!(r#""event":"block","offset":{offset},"length":{}"#, bytes.len())
         }
         Event::Closed { total } => format!(r#""event":"closed","total":{total}"#),
+        Event::Complete { total } => format!(r#""event":"complete","total":{total}"#),
         Event::Refused(refusal) => refused(reader, *refusal),
     }
 }

@@ -4,6 +4,7 @@
 #![forbid(unsafe_code)]
 
 mod diagnosis;
+mod ends;
 mod excerpt;
 mod files;
 mod json;
@@ -11,9 +12,10 @@ mod options;
 mod progress;
 
 use diagnosis::Diagnosis;
+use ends::Sections;
 use files::{Source, Target};
 use options::{Asked, Options, Wanted};
-use ouinet_reader::{quoted, run, Ending, Event, Question, Reader, Refusal, RunError, Section};
+use ouinet_reader::{quoted, run, Ending, Event, Question, Reader, Refusal, RunError, Section, SectionKind};
 use progress::Progress;
 use std::io::{self, IsTerminal, Write};
 use std::process::ExitCode;
@@ -25,6 +27,8 @@ type Complaint = String;
 const REFUSED: u8 = 1;
 /// The exit status where words or files are no good.
 const TROUBLE: u8 = 2;
+/// The exit status of a stream that is closed where it had to be complete.
+const NOT_COMPLETE: u8 = 3;
 
 fn main() -> ExitCode {
     let words: Vec<_> = std::env::args_os().skip(1).collect();
@@ -33,16 +37,23 @@ fn main() -> ExitCode {
             println!("{}", options::USAGE);
             return ExitCode::SUCCESS;
         }
-        Ok(Asked::Fetch(options)) => fetch(&options),
+        Ok(Asked::Fetch(options)) => fetch(&options).map(|ending| status(&ending, options.require_complete)),
         Err(complaint) => Err(complaint),
     };
     match fetched {
-        Ok(Ending::Closed { .. }) => ExitCode::SUCCESS,
-        Ok(Ending::Refused(_)) => ExitCode::from(REFUSED),
+        Ok(status) => status,
         Err(complaint) => {
             eprintln!("oui-fetch: {complaint}");
             ExitCode::from(TROUBLE)
         }
+    }
+}
+
+fn status(ending: &Ending, require_complete: bool) -> ExitCode {
+    match ending {
+        Ending::Closed { .. } if require_complete => ExitCode::from(NOT_COMPLETE),
+        Ending::Closed { .. } | Ending::Complete { .. } => ExitCode::SUCCESS,
+        Ending::Refused(_) => ExitCode::from(REFUSED),
     }
 }
 
@@ -57,10 +68,19 @@ fn fetch(options: &Options) -> Result<Ending, Complaint> {
     };
     let target = Target::open(options.body.as_deref(), source.file())?;
     let progress = Progress::new(!options.quiet && !writes_to_terminal(options));
-    let json = options.json;
-    let taken_uri = any_uri.then(|| uri.clone());
-    let mut sitting =
-        Sitting { json, taken_uri, target, progress, blocks: 0, bytes: 0, refused: None, other_show: None };
+    let mut sitting = Sitting {
+        json: options.json,
+        require_complete: options.require_complete,
+        taken_uri: any_uri.then(|| uri.clone()),
+        target,
+        progress,
+        blocks: 0,
+        bytes: 0,
+        head: Vec::new(),
+        asks_of_end: false,
+        refused: None,
+        other_show: None,
+    };
     let ending = run(&mut source, ring, uri, verify, |reader, event| sitting.on(reader, event));
     sitting.progress.clear();
     let ending = ending.map_err(|error| match error {
@@ -85,13 +105,18 @@ fn verify(question: &Question) -> bool {
 /// One reading of one stream.
 struct Sitting {
     json: bool,
+    require_complete: bool,
     /// With `--any-uri`, the URI that the head gives; empty where it gives none.
     taken_uri: Option<Vec<u8>>,
     target: Target,
     progress: Progress,
     blocks: u64,
     bytes: u64,
-    /// The section that was refused for its text or length.
+    /// The accepted head.
+    head: Vec<u8>,
+    /// Whether the last question was the one about the show's end.
+    asks_of_end: bool,
+    /// The section that was refused.
     refused: Option<Section>,
     /// What is said of a show that was not asked for.
     other_show: Option<String>,
@@ -106,6 +131,13 @@ impl Sitting {
             self.bytes += bytes.len() as u64;
             self.progress.show(self.bytes);
         }
+        if let Event::HeadAccepted { .. } = event {
+            self.head = reader.accepted_head().to_vec();
+        }
+        if let Event::Question(question) = event {
+            // After the head's, only the question about the end is over a text of fields: that about a block begins with the id
+            self.asks_of_end = !self.head.is_empty() && question.message.starts_with(b"(");
+        }
         self.refused = reader.refused_section();
         self.other_show = reader.another_show();
         if self.json {
@@ -118,9 +150,14 @@ impl Sitting {
     /// What is said at the end: a line, and after a wrong text lines that show it.
     fn last_word(&self, ending: &Ending, source: &Source) -> String {
         let Sitting { blocks, bytes, .. } = self;
+        let verified = format!("{bytes} bytes in {blocks} blocks, each verified");
         let any_uri = self.any_uri();
         match ending {
-            Ending::Closed { .. } => format!("closed: {bytes} bytes in {blocks} blocks, each verified{any_uri}"),
+            Ending::Complete { .. } => format!("complete: {verified}, the whole show{any_uri}"),
+            Ending::Closed { .. } => {
+                let failure = if self.require_complete { ", and that is a failure (--require-complete)" } else { "" };
+                format!("closed: {verified}; {}{failure}{any_uri}", ends::NOT_CHECKED)
+            }
             Ending::Refused(refusal) => {
                 let before = match bytes {
                     0 => "nothing was verified".to_string(),
@@ -147,7 +184,20 @@ impl Sitting {
             let bytes = source.recent(section.start, section.length)?;
             Some(diagnosis::of(section, bytes, at))
         });
-        let in_words = || self.other_show.clone().unwrap_or_else(|| refusal.to_string());
-        found.unwrap_or_else(|| Diagnosis { words: in_words(), shown: Vec::new() })
+        let in_words = || self.other_show.clone().or_else(|| self.wrong_end(refusal, source));
+        found.unwrap_or_else(|| Diagnosis {
+            words: in_words().unwrap_or_else(|| refusal.to_string()),
+            shown: Vec::new(),
+        })
+    }
+
+    /// What is said where it is the show's end that is refused.
+    fn wrong_end(&self, refusal: Refusal, source: &Source) -> Option<String> {
+        if refusal == Refusal::BadSignature && self.asks_of_end {
+            return Some(ends::WRONG_SIGNATURE.to_string());
+        }
+        let section = self.refused.filter(|section| section.kind == SectionKind::Trailer)?;
+        let trailer = source.recent(section.start, section.length)?;
+        ends::cause(refusal, &Sections { head: &self.head, trailer }, self.bytes)
     }
 }

@@ -5,11 +5,12 @@ use std::os::unix::ffi::OsStringExt;
 use std::path::PathBuf;
 
 pub const USAGE: &str = "\
-usage: oui-fetch --ring RING (--uri URI | --any-uri) [-o BODY] [--json] [--quiet] [STREAM]
+usage: oui-fetch --ring RING (--uri URI | --any-uri) [-o BODY] [--require-complete] [--json] [--quiet] [STREAM]
 
 Reads a signed stream (Ouinet's format, version 4) from the file STREAM or from standard input, verifies every signature with
 Ed25519, and writes the body to the file BODY or to standard output, each block as soon as it is verified. Bytes that are not
-verified are never written: a stream that is cut off or changed on its way leaves the verified beginning.
+verified are never written: a stream that is cut off or changed on its way leaves the verified beginning. So does one whose end shows
+that the body is not the whole show: it is refused, when all of its blocks are written.
 
   --ring RING   whom to trust: a line for each key, at most 16: the key in base64, the first and the last second in which it
                 is trusted, with one space between
@@ -17,24 +18,30 @@ verified are never written: a stream that is cut off or changed on its way leave
                 included, is another show and is refused, whoever signed it
   --any-uri     take the show that comes, whatever its URI; the last word then says so
   -o BODY       where the body goes; a file that is there is written anew
+  --require-complete
+                a stream that does not say where the show ends is a failure (exit status 3); what was verified is in BODY then, as
+                after a refusal
   --json        a line of JSON for each event, on standard output; the body then needs -o
   --quiet       no progress and no last word on standard error
   --help        this text
 
 One of --uri and --any-uri must be given.
 
-The last word is 'closed', or 'refused' with the number and the meaning of the refusal. 'closed' says that the stream ended as
-it should; version 4 does not mark the last block, so nobody can tell by the stream alone whether the show is whole.
+The last word is 'complete', 'closed', or 'refused' with the number and the meaning of the refusal. 'complete' says that the body is the
+whole show: the stream gives its length and its SHA-256 (X-Ouinet-Data-Size, Digest), signed (X-Ouinet-Sig1), and they are the body's.
+'closed' says that the stream ended as it should, but has none of the three fields: a block does not say that it is the last, so nobody
+has checked whether the show is complete: whoever passed the stream on may have taken them out and cut it short.
 Of another show (refusal 16) the last word has the URI asked for and the one that came, which nobody has verified.
 Where a text is wrong (refusals 3 and 6) the last word has its offset in the stream, counted from 0, and the line is shown under it
 with a mark at the byte. What is not printable ASCII is escaped there.
 
-Exit status: 0 closed, 1 refused, 2 a file or a word that is no good.
+Exit status: 0 complete or closed, 1 refused, 2 a file or a word that is no good, 3 closed and not complete with --require-complete.
 
 The lines of --json:
   {\"event\":\"question\",\"length\":219,\"record\":0}
   {\"event\":\"head\",\"status\":200,\"uri\":\"https://example.com/hello\"}
   {\"event\":\"block\",\"offset\":0,\"length\":5}
+  {\"event\":\"complete\",\"total\":12}
   {\"event\":\"closed\",\"total\":12}
   {\"event\":\"refused\",\"number\":11,\"meaning\":\"the stream stops before its end\",\"at\":null,\"stream_offset\":null}
 With refusals 3 and 6, at is where the text of the head, chunk line, data end or trailer goes wrong, counted from its first byte, or
@@ -63,6 +70,8 @@ pub struct Options {
     pub stream: Option<PathBuf>,
     /// Standard output if not given.
     pub body: Option<PathBuf>,
+    /// Whether a stream that is closed and not complete is a failure.
+    pub require_complete: bool,
     pub json: bool,
     pub quiet: bool,
 }
@@ -70,7 +79,7 @@ pub struct Options {
 impl Options {
     pub fn parse(words: &[OsString]) -> Result<Asked, String> {
         let (mut ring, mut stream, mut body, mut json, mut quiet) = (None, None, None, false, false);
-        let (mut uri, mut any_uri) = (None, false);
+        let (mut uri, mut any_uri, mut require_complete) = (None, false, false);
         let mut words = words.iter();
         while let Some(word) = words.next() {
             match word.to_str() {
@@ -80,6 +89,7 @@ impl Options {
                 Some("--ring" | "-r") => set(&mut ring, words.next(), "--ring")?,
                 Some("--uri") => set(&mut uri, words.next(), "--uri")?,
                 Some("--any-uri") => any_uri = true,
+                Some("--require-complete") => require_complete = true,
                 Some("-o") => set(&mut body, words.next(), "-o")?,
                 Some(option) if option.starts_with('-') && option != "-" => {
                     return Err(format!("no option {option}; see oui-fetch --help"))
@@ -94,7 +104,8 @@ impl Options {
         if json && body.is_none() {
             return Err("with --json the body needs a file: -o BODY".to_string());
         }
-        Ok(Asked::Fetch(Options { ring, wanted, stream: stream.filter(not_dash), body, json, quiet }))
+        let stream = stream.filter(not_dash);
+        Ok(Asked::Fetch(Options { ring, wanted, stream, body, require_complete, json, quiet }))
     }
 }
 

@@ -1,5 +1,6 @@
 //! A field of the head as it is given on the command line.
 
+use crate::ends::{DIGEST, SIG1, SIZE};
 use second::head::may_repeat;
 use second::text::{is_name_byte, is_value_byte, trim};
 use streams::head::Field;
@@ -26,6 +27,9 @@ fn check_name(name: &str) -> Result<(), String> {
     }
     if name.eq_ignore_ascii_case("Content-Type") {
         return Err(format!("{name} is set by --type"));
+    }
+    if [DIGEST, SIZE, SIG1].iter().any(|own| name.eq_ignore_ascii_case(own)) {
+        return Err(format!("{name} is about the show's end and is set by --ends"));
     }
     if !may_repeat(name.as_bytes()) {
         return Err(format!("{name} belongs to the format of signed streams and cannot be given"));

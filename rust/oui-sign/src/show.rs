@@ -1,5 +1,6 @@
 //! What a stream says about itself, and how it is written from a source of bytes.
 
+use crate::ends::{self, Ends, Sum};
 use crate::header::{self, check_value};
 use second::head;
 use sodium::Signer;
@@ -23,6 +24,7 @@ pub struct Show {
     content_type: String,
     id: String,
     ts: u64,
+    ends: Ends,
     /// Further fields, all of them signed.
     headers: Vec<Field>,
 }
@@ -35,6 +37,7 @@ impl Show {
             content_type: options.named("--type").unwrap_or_else(|| "application/octet-stream".to_string()),
             id: options.named("--id").unwrap_or_else(any_id),
             ts: options.number("--ts")?.unwrap_or_else(now),
+            ends: Ends::from(options)?,
             headers: options.all_named("--header").iter().map(|word| header::parse(word)).collect::<Result<_, _>>()?,
         };
         show.check()?;
@@ -59,8 +62,15 @@ impl Show {
         Ok(())
     }
 
-    /// The plan of the stream, without its blocks.
-    pub fn plan(&self, signer: Signer) -> Result<Plan, String> {
+    /// The stream, without its blocks.
+    pub fn stream(&self, signer: Signer) -> Result<Stream, String> {
+        let plan = self.plan(signer);
+        check_sizes(&plan)?;
+        Ok(Stream { plan, ends: self.ends, known: None })
+    }
+
+    /// The plan of the stream. Its trailer is written behind it.
+    fn plan(&self, signer: Signer) -> Plan {
         let ts = self.ts.to_string().into_bytes();
         let mut plan = Plan {
             signer,
@@ -83,9 +93,12 @@ impl Show {
             block_size: self.block_size,
             blocks: Vec::new(),
             sizes: SizeStyle::Lower,
-            trailer: b"\r\n".to_vec(),
+            trailer: Vec::new(),
             ring: Vec::new(),
         };
+        if self.ends == Ends::Trailer {
+            plan.fields.push(ends::announcement());
+        }
         plan.set_injection(self.id.as_bytes(), &ts);
         for field in &self.headers {
             plan.fields.push(field.clone());
@@ -93,8 +106,7 @@ impl Show {
                 plan.listed.push(field.name.to_ascii_lowercase());
             }
         }
-        check_sizes(&plan)?;
-        Ok(plan)
+        plan
     }
 }
 
@@ -124,16 +136,78 @@ fn any_id() -> String {
 }
 
 /// Why a stream was not written whole.
+#[derive(Debug)]
 pub enum Fault {
     Read(io::Error),
     Write(io::Error),
     TooLong,
+    /// The body is another one than that which the head is about.
+    Changed,
 }
 
-/// Writes the stream of a source, block by block.
-pub fn write(plan: Plan, mut source: impl Read, out: impl Write) -> Result<(), Fault> {
-    let block_size = plan.block_size;
-    let mut writer = Writer::start(plan, out).map_err(Fault::Write)?;
+/// A stream that is to be written.
+pub struct Stream {
+    plan: Plan,
+    ends: Ends,
+    /// What the head says of the body.
+    known: Option<Sum>,
+}
+
+impl Stream {
+    /// Whether the head is to say what the body sums up to, so that the body must be read beforehand.
+    pub fn wants_sum(&self) -> bool {
+        self.ends == Ends::Head
+    }
+
+    /// Has the head say what the body sums up to.
+    pub fn set_sum(&mut self, sum: Sum) -> Result<(), String> {
+        let fields = ends::fields(&self.plan, &sum);
+        self.plan.fields.extend(fields);
+        self.known = Some(sum);
+        check_sizes(&self.plan)
+    }
+
+    /// Writes the stream of a source, block by block.
+    pub fn write(self, mut source: impl Read, mut out: impl Write) -> Result<(), Fault> {
+        let mut writer = Writer::start(self.plan.clone(), &mut out).map_err(Fault::Write)?;
+        let mut sum = Sum::default();
+        each_block(&mut source, self.plan.block_size, |block| {
+            sum.take(block);
+            writer.block(block).map_err(Fault::Write)
+        })?;
+        if self.known.as_ref().is_some_and(|known| !known.is(&sum)) {
+            return Err(Fault::Changed);
+        }
+        writer.finish().map_err(Fault::Write)?;
+        out.write_all(&self.trailer(&sum)).and_then(|()| out.flush()).map_err(Fault::Write)
+    }
+
+    fn trailer(&self, sum: &Sum) -> Vec<u8> {
+        let mut trailer = Vec::new();
+        if self.ends == Ends::Trailer {
+            trailer.extend(ends::fields(&self.plan, sum).iter().flat_map(Field::line));
+        }
+        trailer.extend(b"\r\n");
+        trailer
+    }
+}
+
+/// What a body sums up to.
+pub fn sum_of(mut source: impl Read) -> Result<Sum, Fault> {
+    let mut sum = Sum::default();
+    each_block(&mut source, 65_536, |block| {
+        sum.take(block);
+        Ok(())
+    })?;
+    Ok(sum)
+}
+
+/// Reads a body in blocks of this size, the last one shorter if need be.
+fn each_block(
+    source: &mut impl Read,
+    block_size: usize,
+    mut on: impl FnMut(&[u8]) -> Result<(), Fault>,
+) -> Result<(), Fault> {
     let mut block = Vec::with_capacity(block_size);
     let mut total = 0;
     loop {
@@ -144,8 +218,8 @@ pub fn write(plan: Plan, mut source: impl Read, out: impl Write) -> Result<(), F
             return Err(Fault::TooLong);
         }
         if block.is_empty() {
-            return writer.finish().map_err(Fault::Write);
+            return Ok(());
         }
-        writer.block(&block).map_err(Fault::Write)?;
+        on(&block)?;
     }
 }

@@ -33,8 +33,13 @@ pub enum Event<'r> {
         /// The block.
         bytes: &'r [u8],
     },
-    /// The stream's framing ended well. This is the last event.
+    /// The stream's framing ended well, and it has no end fields: nothing says that the body is complete. This is the last event.
     Closed {
+        /// The length of the body.
+        total: u64,
+    },
+    /// The body is complete: its length and its SHA-256 are those that the last good signature is over. This is the last event.
+    Complete {
         /// The length of the body.
         total: u64,
     },
@@ -45,6 +50,6 @@ pub enum Event<'r> {
 impl Event<'_> {
     /// Whether this is a stream's last event.
     pub fn is_final(&self) -> bool {
-        matches!(self, Event::Closed { .. } | Event::Refused(_))
+        matches!(self, Event::Closed { .. } | Event::Complete { .. } | Event::Refused(_))
     }
 }

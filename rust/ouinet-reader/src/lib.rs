@@ -33,7 +33,8 @@
 //!     },
 //! )?;
 //! match ending {
-//!     Ending::Closed { total } => println!("{total} bytes, all verified"),
+//!     Ending::Complete { total } => println!("{total} bytes, all verified, and the whole show"),
+//!     Ending::Closed { total } => println!("{total} bytes, all verified; whether that is the whole show was not checked"),
 //!     Ending::Refused(refusal) => println!("refused with {}: {refusal}", refusal.number()),
 //! }
 //! # Ok(())
@@ -106,10 +107,17 @@
 //!
 //! A program in which any show will do, because its user says so, reads the head beforehand and hands in what [`head_uri`] finds there.
 //!
-//! # What *closed* means
+//! # What *complete* means, and *closed*
 //!
-//! That the framing ended well. It does not say that the body is complete: version 4 blocks do not mark the last one, so a
-//! stream that was cut after a block and closed by someone on its way reads like a shorter one.
+//! The signature of a block does not say that it is the last one. So a stream may have three fields about its end, in the head or in the
+//! trailer: `Digest`, `X-Ouinet-Data-Size` and `X-Ouinet-Sig1`, a signature over both and over what the head's own covers. Where they are
+//! there, the reader counts and hashes what it hands out, asks one question more after the trailer, and a yes gives
+//! [`Event::Complete`]: the bytes that were handed out are the whole show. Where they are wrong, or are about other bytes, the stream is
+//! refused with [`Refusal::BadEnds`], [`Refusal::OtherLength`], [`Refusal::OtherDigest`] or [`Refusal::Untrusted`], although its blocks,
+//! each of them verified, are out by then.
+//!
+//! Where none of the three is there, the last event is [`Event::Closed`]: the framing ended well. That does not say that the body is
+//! complete: a stream that was cut after a block and closed by someone on its way, who also leaves the three out, reads like a shorter one.
 
 #![deny(missing_docs)]
 #![deny(unsafe_code)]

@@ -9,7 +9,7 @@
 #![allow(unsafe_code)]
 
 /// The least length of a state.
-pub const STATE_SIZE: usize = 336;
+pub const STATE_SIZE: usize = 472;
 /// Where a state has the number of its phase.
 pub(crate) const STATE_PHASE: usize = 0;
 /// The phases in which a section is under way that is judged by its text.
@@ -20,6 +20,8 @@ pub(crate) const PHASE_NEXT_LINE: u64 = 5;
 pub(crate) const PHASE_TRAILER: u64 = 7;
 /// Where a state has how many bytes of the section under way have come.
 pub(crate) const STATE_COUNT: usize = 8;
+/// Where a state has the length of the accepted head.
+pub(crate) const STATE_ACCEPTED: usize = 24;
 /// The least length of a head buffer: a head, and a trailer too, has at most so many bytes.
 pub const HEAD_SIZE: usize = 32_768;
 /// The least length of a block buffer.
@@ -43,10 +45,12 @@ pub const QUESTION: u8 = 1;
 pub const HEAD: u8 = 2;
 /// The word of a released block; its numbers are the offset and the length.
 pub const BLOCK: u8 = 3;
-/// The word of a closed stream; its number is the body's length.
+/// The word of a closed stream, which has no end fields; its number is the body's length.
 pub const CLOSED: u8 = 4;
 /// The word of a refusal; its numbers are the refusal's and, with 3 and 6, where the section's text goes wrong.
 pub const REFUSED: u8 = 5;
+/// The word of a complete stream, after the last yes; its number is the body's length.
+pub const COMPLETE: u8 = 6;
 /// What a call returns where the state or the result is too short.
 pub const SHORT: u8 = 255;
 

@@ -74,23 +74,23 @@ impl Reader {
         let taken = Outcome::of(&self.result).taken as usize;
         self.taken += taken as u64;
         match self.event() {
-            Ok(Some(Event::Refused(Refusal::BadHead { .. } | Refusal::BadFrame { .. }))) => {
+            Ok(Some(Event::Refused(Refusal::OtherUri))) => self.offered = head_uri(&self.head).map(Box::from),
+            Ok(Some(Event::Refused(refusal))) if self.is_about_a_section(refusal) => {
                 self.refused = self.locate(before, &piece[..taken]);
             }
-            Ok(Some(Event::Refused(Refusal::OtherUri))) => self.offered = head_uri(&self.head).map(Box::from),
             _ => (),
         }
         Ok(Fed { taken, event: self.event()? })
     }
 
-    /// Answers the open question: whether the signature is good. A yes gives [`Event::HeadAccepted`] or [`Event::Block`], a
-    /// no [`Refusal::BadSignature`].
+    /// Answers the open question: whether the signature is good. A yes gives [`Event::HeadAccepted`], [`Event::Block`] or, at
+    /// the end, [`Event::Complete`], a no [`Refusal::BadSignature`].
     pub fn answer(&mut self, good: bool) -> Result<Event<'_>, NotDue> {
         raw::answer(&mut self.lend().0, u8::from(good));
         self.event()?.ok_or(NotDue)
     }
 
-    /// Says that no bytes will follow. Since a closed stream has had its last event, this is [`Refusal::Unfinished`].
+    /// Says that no bytes will follow. Since a closed or complete stream has had its last event, this is [`Refusal::Unfinished`].
     pub fn end(&mut self) -> Result<Event<'_>, NotDue> {
         raw::end(&mut self.lend().0);
         self.event()?.ok_or(NotDue)
@@ -118,13 +118,21 @@ impl Reader {
         raw::value_count(&self.state, &self.head, name.as_ref())
     }
 
+    /// The accepted head with its end, empty before it is accepted. Only what [`value`](Reader::value) gives of it is signed.
+    pub fn accepted_head(&self) -> &[u8] {
+        let length = raw::number(&self.state, raw::STATE_ACCEPTED);
+        let length = usize::try_from(length).map_or(self.head.len(), |length| length.min(self.head.len()));
+        &self.head[..length]
+    }
+
     /// How many bytes of the stream were taken, in all feeds.
     pub fn taken(&self) -> u64 {
         self.taken
     }
 
-    /// The section whose text or length was refused, after [`Refusal::BadHead`] or [`Refusal::BadFrame`]; else nothing. The place
-    /// that the refusal carries is counted from its first byte.
+    /// The section whose text or length was refused, after [`Refusal::BadHead`] or [`Refusal::BadFrame`]: the place that the refusal
+    /// carries is counted from its first byte. After a refusal at the trailer's end, which is about the fields in it or what they
+    /// say, it is the trailer. Else nothing.
     pub fn refused_section(&self) -> Option<Section> {
         self.refused
     }
@@ -148,6 +156,17 @@ impl Reader {
     /// The key ring that the reader was made with.
     pub fn ring(&self) -> &Ring {
         &self.ring
+    }
+
+    /// Whether the section that was refused is to be told: one with a wrong text or length, or the trailer, whose end was judged. A head
+    /// that is well written and refused all the same is none.
+    fn is_about_a_section(&self, refusal: Refusal) -> bool {
+        match refusal {
+            Refusal::BadHead { .. } | Refusal::BadFrame { .. } => true,
+            Refusal::BadEnds | Refusal::OtherLength | Refusal::OtherDigest => true,
+            Refusal::Untrusted => !self.accepted_head().is_empty(),
+            _ => false,
+        }
     }
 
     /// The section that the last byte taken belongs to. The call is made once more without that byte, by a copy of the reader in
@@ -186,6 +205,7 @@ impl Reader {
             raw::HEAD => Some(Event::HeadAccepted { status: first as u16 }),
             raw::BLOCK => Some(Event::Block { offset: first, bytes: &self.block[..second as usize] }),
             raw::CLOSED => Some(Event::Closed { total: first }),
+            raw::COMPLETE => Some(Event::Complete { total: first }),
             _ if first == 1 => return Err(NotDue),
             _ => {
                 let refusal = Refusal::from_numbers(first, second);

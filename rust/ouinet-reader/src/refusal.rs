@@ -38,15 +38,24 @@ pub enum Refusal {
     BadSignature,
     /// 11: the end was told in an unfinished stream.
     Unfinished,
-    /// 12: the key is not trusted at the stream's time.
+    /// 12: the key is not trusted at the stream's time, or the stream's signatures are not all of one key. At the head's end that is the
+    /// blocks' key; at the trailer's end it is that of `X-Ouinet-Sig1`, tested after 15.
     Untrusted,
+    /// 13: the fields about the body's end are wrong: `Digest`, `X-Ouinet-Data-Size` and `X-Ouinet-Sig1`. Some but not all are there, one
+    /// is there twice (in the head, the trailer or one in each), a text or the list of signed names is wrong, or `X-Ouinet-Sig0` signs one
+    /// of the first two already. Like 14 and 15 it comes at the trailer's end, when all blocks are out.
+    BadEnds,
+    /// 14: the body has another length than `X-Ouinet-Data-Size` says.
+    OtherLength,
+    /// 15: the body has another SHA-256 than `Digest` says.
+    OtherDigest,
     /// 16: the head is another URI's than the one asked for. It is tested after all of 3, 4 and 5 and before 12, and before any
     /// signature: [`Reader::offered_uri`](crate::Reader::offered_uri) then has the head's, unverified.
     OtherUri,
 }
 
 impl Refusal {
-    /// The specification's number, from 3 to 12, or 16.
+    /// The specification's number, from 3 to 16.
     pub fn number(self) -> u8 {
         match self {
             Refusal::BadHead { .. } => 3,
@@ -59,6 +68,9 @@ impl Refusal {
             Refusal::BadSignature => 10,
             Refusal::Unfinished => 11,
             Refusal::Untrusted => 12,
+            Refusal::BadEnds => 13,
+            Refusal::OtherLength => 14,
+            Refusal::OtherDigest => 15,
             Refusal::OtherUri => 16,
         }
     }
@@ -84,6 +96,9 @@ impl Refusal {
             (10, 0) => Refusal::BadSignature,
             (11, 0) => Refusal::Unfinished,
             (12, 0) => Refusal::Untrusted,
+            (13, 0) => Refusal::BadEnds,
+            (14, 0) => Refusal::OtherLength,
+            (15, 0) => Refusal::OtherDigest,
             (16, 0) => Refusal::OtherUri,
             _ => return None,
         })
@@ -105,7 +120,14 @@ impl Refusal {
             Refusal::TooLong => "the body is longer than 4,294,967,296 bytes",
             Refusal::BadSignature => "a signature is wrong: the stream was changed on its way, or not signed with this key",
             Refusal::Unfinished => "the stream stops before its end",
-            Refusal::Untrusted => "the key is not trusted: no record of the ring has it at the stream's time",
+            Refusal::Untrusted => {
+                "the key is not trusted: no record of the ring has it at the stream's time, or the stream is not signed with one key throughout"
+            }
+            Refusal::BadEnds => {
+                "the fields about the show's end are wrong: Digest, X-Ouinet-Data-Size and X-Ouinet-Sig1 do not all stand there once and well written"
+            }
+            Refusal::OtherLength => "these are not the bytes of the whole show: the stream gives another length than theirs",
+            Refusal::OtherDigest => "these are not the bytes of the whole show: the stream gives another SHA-256 than theirs",
             Refusal::OtherUri => "this is another show than the one asked for: the head has another URI",
         }
     }
@@ -129,7 +151,7 @@ mod tests {
 
     #[test]
     fn numbers_and_refusals_fit() {
-        for number in (3..=12).chain([16]) {
+        for number in 3..=16 {
             for place in [0, 1, 32_768, u64::MAX] {
                 let has_place = number == 3 || number == 6;
                 match Refusal::from_numbers(number, place) {
@@ -141,7 +163,7 @@ mod tests {
                 }
             }
         }
-        for none in [0, 1, 2, 13, 15, 17, 255, 259, 272, u64::MAX] {
+        for none in [0, 1, 2, 17, 18, 255, 259, 269, 272, u64::MAX] {
             assert_eq!(Refusal::from_numbers(none, 0), None);
         }
     }

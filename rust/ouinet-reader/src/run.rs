@@ -13,8 +13,13 @@ const MOST_PIECE: usize = 65_536;
 /// How a stream ended.
 #[derive(Debug, Clone, Copy, PartialEq, Eq)]
 pub enum Ending {
-    /// The framing ended well; see the crate's words on what that means.
+    /// The framing ended well, and nothing says whether the body is complete; see the crate's words on what that means.
     Closed {
+        /// The length of the body.
+        total: u64,
+    },
+    /// The body is complete.
+    Complete {
         /// The length of the body.
         total: u64,
     },
@@ -129,6 +134,7 @@ where
                 }
                 Event::HeadAccepted { .. } | Event::Block { .. } => break,
                 Event::Closed { total } => return Ok(Some(Ending::Closed { total })),
+                Event::Complete { total } => return Ok(Some(Ending::Complete { total })),
                 Event::Refused(refusal) => return Ok(Some(Ending::Refused(refusal))),
             }
         }

@@ -1,17 +1,16 @@
 //! The URI asked for: what is refused with 16 and in which order, what is left then, and that it is read only when the head is judged. The
 //! heads are the example's with edits; all answers are yes, so the signature need not fit.
 
-use ouinet_reader::{another_show, raw, run, Ending, Event, NotDue, Reader, Refusal, Ring};
+mod common;
 
-const STREAM: &[u8] = include_bytes!("../../../crates/ouiread/data/stream");
+use common::{plain, ring};
+use ouinet_reader::{another_show, raw, run, Ending, Event, NotDue, Reader, Refusal, Ring};
+use std::sync::LazyLock;
+
+static STREAM: LazyLock<Vec<u8>> = LazyLock::new(plain);
 const URI: &str = include_str!("../../../crates/ouiread/data/uri");
-const RING: &[u8] = include_bytes!("../../../crates/ouiread/data/ring");
 const OTHER: &str = "https://example.com/other";
 const PIECES: [usize; 5] = [1, 2, 7, 100, 65_536];
-
-fn ring() -> Ring {
-    Ring::parse(RING).expect("a good ring")
-}
 
 fn head_length() -> usize {
     STREAM.windows(4).position(|four| four == b"\r\n\r\n").expect("a head") + 4
@@ -117,14 +116,14 @@ fn the_order() {
 fn what_is_told_and_what_is_left() {
     let mut reader = Reader::new(ring(), OTHER);
     assert_eq!((reader.uri(), reader.offered_uri(), reader.another_show()), (OTHER.as_bytes(), None, None));
-    let fed = reader.feed(STREAM).expect("in turn");
+    let fed = reader.feed(&STREAM).expect("in turn");
     assert_eq!((fed.taken, fed.event), (head_length(), Some(Event::Refused(Refusal::OtherUri))));
     for _ in 0..2 {
         assert_eq!(reader.offered_uri(), Some(URI.as_bytes()));
         assert_eq!(reader.another_show(), Some(another_show(OTHER.as_bytes(), URI.as_bytes())));
         assert_eq!((reader.block(), reader.value("X-Ouinet-URI"), reader.refused_section()), (&b""[..], vec![], None));
         // It is final, and later calls leave it so
-        assert_eq!(reader.feed(STREAM), Err(NotDue));
+        assert_eq!(reader.feed(&STREAM), Err(NotDue));
         assert_eq!(reader.answer(true), Err(NotDue));
         assert_eq!(reader.end(), Err(NotDue));
     }
@@ -139,7 +138,7 @@ fn what_is_told_and_what_is_left() {
 fn a_run_tells_its_handler() {
     let mut told = Vec::new();
     let ending = run(
-        STREAM,
+        &STREAM[..],
         ring(),
         OTHER,
         |_| panic!("nothing is asked"),
@@ -151,7 +150,7 @@ fn a_run_tells_its_handler() {
     assert_eq!(ending.expect("no fault"), Ending::Refused(Refusal::OtherUri));
     assert_eq!(told, [(true, another_show(OTHER.as_bytes(), URI.as_bytes()))]);
     let ending = run(
-        STREAM,
+        &STREAM[..],
         ring(),
         URI.to_string(),
         |_| true,

@@ -1,30 +1,16 @@
-//! The example stream through the crate: its nine events, however it is cut, and what is handed out when.
+//! The example stream through the crate, without the fields about its end: its nine events, however it is cut, and what is handed out when.
+//! (`ends.rs` has it with them.)
 
+mod common;
+
+use common::{line, plain, ring, URI};
 use ouinet_reader::{run, Ending, Event, NotDue, Reader, Refusal, Ring, RunError};
 use std::io::{self, Read};
+use std::sync::LazyLock;
 
-const STREAM: &[u8] = include_bytes!("../../../crates/ouiread/data/stream");
-const URI: &[u8] = include_bytes!("../../../crates/ouiread/data/uri");
-const RING: &[u8] = include_bytes!("../../../crates/ouiread/data/ring");
-const LINES: &str = include_str!("../../../crates/ouiread/stdout");
-
-fn ring() -> Ring {
-    Ring::parse(RING).expect("a good ring")
-}
-
-/// An event as a line of the small program.
-fn line(event: &Event) -> String {
-    match event {
-        Event::Question(question) => format!("question {}\n", question.message.len()),
-        Event::HeadAccepted { status } => format!("head {status}\n"),
-        Event::Block { offset, bytes } => format!("block {offset} {}\n", bytes.len()),
-        Event::Closed { total } => format!("closed {total}\n"),
-        Event::Refused(refusal) => match refusal.at() {
-            Some(at) => format!("refused {} at {at}\n", refusal.number()),
-            None => format!("refused {}\n", refusal.number()),
-        },
-    }
-}
+static STREAM: LazyLock<Vec<u8>> = LazyLock::new(plain);
+const LINES: &str =
+    "question 219\nhead 200\nquestion 83\nblock 0 5\nquestion 83\nblock 5 5\nquestion 84\nblock 10 2\nclosed 12\n";
 
 /// A source that gives at most so many bytes at a time, and is interrupted before each.
 struct Slow<'a> {
@@ -71,7 +57,7 @@ fn read(source: impl Read, good: usize) -> (String, Vec<u8>, Ending) {
 #[test]
 fn nine_events_however_it_is_cut() {
     for most in [1, 2, 3, 5, 64, 1000, 65_536] {
-        let (lines, body, ending) = read(slow(STREAM, most), 9);
+        let (lines, body, ending) = read(slow(&STREAM, most), 9);
         assert_eq!(lines, LINES, "pieces of {most}");
         assert_eq!(body, b"Hello world!");
         assert_eq!(ending, Ending::Closed { total: 12 });
@@ -80,14 +66,14 @@ fn nine_events_however_it_is_cut() {
 
 #[test]
 fn bytes_behind_the_end_are_left_alone() {
-    let (lines, _, _) = read(&[STREAM, b"more"].concat()[..], 9);
+    let (lines, _, _) = read(&[&STREAM[..], b"more"].concat()[..], 9);
     assert_eq!(lines, LINES);
 }
 
 #[test]
 fn only_blocks_with_a_good_signature_come_out() {
     for (good, bytes) in [(0, 0), (1, 0), (2, 5), (3, 10)] {
-        let (_, body, ending) = read(STREAM, good);
+        let (_, body, ending) = read(&STREAM[..], good);
         assert_eq!(body, b"Hello world!"[..bytes]);
         assert_eq!(ending, Ending::Refused(Refusal::BadSignature));
     }
@@ -104,14 +90,14 @@ fn a_stream_that_stops_is_refused() {
 
 #[test]
 fn an_empty_ring_trusts_nobody() {
-    let ending = run(STREAM, Ring::empty(), URI, |_| true, |_, _| Ok::<(), ()>(()));
+    let ending = run(&STREAM[..], Ring::empty(), URI, |_| true, |_, _| Ok::<(), ()>(()));
     assert_eq!(ending.expect("no fault"), Ending::Refused(Refusal::Untrusted));
 }
 
 #[test]
 fn questions_carry_what_a_verifier_needs() {
     let mut reader = Reader::new(ring(), URI);
-    let fed = reader.feed(STREAM).expect("in turn");
+    let fed = reader.feed(&STREAM).expect("in turn");
     let Some(Event::Question(question)) = fed.event else { panic!("no question") };
     assert_eq!(question.key, &ring().records()[0].key);
     assert_eq!(question.record, 0);
@@ -124,7 +110,7 @@ fn questions_carry_what_a_verifier_needs() {
 #[test]
 fn values_of_the_accepted_head() {
     let mut reader = Reader::new(ring(), URI);
-    reader.feed(STREAM).expect("in turn");
+    reader.feed(&STREAM).expect("in turn");
     assert_eq!((reader.value("Content-Type"), reader.value_count("Content-Type")), (b"".to_vec(), 0));
     assert_eq!(reader.answer(true), Ok(Event::HeadAccepted { status: 200 }));
     assert_eq!((reader.value("Content-Type"), reader.value_count("Content-Type")), (b"text/plain".to_vec(), 1));
@@ -139,7 +125,7 @@ fn values_of_the_accepted_head() {
 fn calls_out_of_turn_change_nothing() {
     let mut reader = Reader::new(ring(), URI);
     assert_eq!(reader.answer(true), Err(NotDue));
-    let taken = reader.feed(STREAM).expect("in turn").taken;
+    let taken = reader.feed(&STREAM).expect("in turn").taken;
     assert_eq!(reader.feed(b"x"), Err(NotDue));
     assert_eq!(reader.end(), Err(NotDue));
     let mut other = reader.clone();
@@ -156,7 +142,8 @@ fn calls_out_of_turn_change_nothing() {
 
 #[test]
 fn an_error_of_the_handler_ends_the_run() {
-    let stopped = run(STREAM, ring(), URI, |_| true, |_, event| if event.is_final() { Err("enough") } else { Ok(()) });
+    let stopped =
+        run(&STREAM[..], ring(), URI, |_| true, |_, event| if event.is_final() { Err("enough") } else { Ok(()) });
     assert!(matches!(stopped, Err(RunError::Stopped("enough"))));
     struct Broken;
     impl Read for Broken {

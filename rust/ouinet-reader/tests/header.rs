@@ -38,6 +38,7 @@ fn words() {
         ("BLOCK", raw::BLOCK),
         ("CLOSED", raw::CLOSED),
         ("REFUSED", raw::REFUSED),
+        ("COMPLETE", raw::COMPLETE),
         ("SHORT", raw::SHORT),
     ] {
         assert_eq!(defined(name), u64::from(word), "{name}");
@@ -57,6 +58,9 @@ fn refusals() {
         ("BAD_SIGNATURE", Refusal::BadSignature),
         ("UNFINISHED", Refusal::Unfinished),
         ("UNTRUSTED", Refusal::Untrusted),
+        ("BAD_ENDS", Refusal::BadEnds),
+        ("OTHER_LENGTH", Refusal::OtherLength),
+        ("OTHER_DIGEST", Refusal::OtherDigest),
         ("OTHER_URI", Refusal::OtherUri),
     ] {
         assert_eq!(defined(name), u64::from(refusal.number()), "{name}");

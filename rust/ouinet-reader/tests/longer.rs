@@ -3,8 +3,8 @@
 
 mod common;
 
-use common::{head_with, ring, OWN_FIELDS, STREAM, URI};
-use ouinet_reader::raw::{self, Lent, Outcome};
+use common::{head_with, ring, Buffers, ENOUGH, OWN_FIELDS, STREAM, URI};
+use ouinet_reader::raw::{self, Outcome};
 use ouinet_reader::{Event, Reader, Refusal};
 
 const PIECES: [usize; 4] = [1, 1000, 8192, 65_536];
@@ -97,44 +97,7 @@ fn trailers() {
     }
 }
 
-/// Buffers of the least lengths.
-#[derive(Clone, PartialEq, Debug)]
-struct Buffers {
-    state: Vec<u8>,
-    head: Vec<u8>,
-    block: Vec<u8>,
-    question: Vec<u8>,
-    result: Vec<u8>,
-}
-
 impl Buffers {
-    fn fresh() -> Self {
-        let mut state = vec![0; raw::STATE_SIZE];
-        assert_eq!(raw::fresh(&mut state), 0);
-        Buffers {
-            state,
-            head: vec![1; 32_768],
-            block: vec![2; 65_536],
-            question: vec![3; 32_768],
-            result: vec![4; raw::RESULT_SIZE],
-        }
-    }
-
-    /// So much of head, block and question is lent.
-    fn lend(&mut self, [head, block, question]: [usize; 3]) -> Lent<'_> {
-        Lent {
-            state: &mut self.state,
-            head: &mut self.head[..head],
-            block: &mut self.block[..block],
-            question: &mut self.question[..question],
-            result: &mut self.result,
-        }
-    }
-
-    fn feed(&mut self, lengths: [usize; 3], piece: &[u8]) -> u8 {
-        raw::feed(&mut self.lend(lengths), ring().as_bytes(), URI, piece)
-    }
-
     /// Each call with too little room is refused with 2, and leaves all but the result as it was.
     fn refuse(&self, lengths: [usize; 3]) {
         let calls: [fn(&mut Buffers, [usize; 3]) -> u8; 3] = [
@@ -145,19 +108,16 @@ impl Buffers {
         for call in calls {
             let mut tried = self.clone();
             assert_eq!(call(&mut tried, lengths), raw::REFUSED, "{lengths:?}");
-            let result = tried.result[..].try_into().expect("a result");
-            assert_eq!(Outcome::of(result), Outcome { word: u64::from(raw::REFUSED), taken: 0, first: 2, second: 0 });
+            assert_eq!(tried.outcome(), Outcome { word: u64::from(raw::REFUSED), taken: 0, first: 2, second: 0 });
             tried.result.clone_from(&self.result);
             assert!(tried == *self, "something changed with {lengths:?}");
         }
     }
 }
 
-const ENOUGH: [usize; 3] = [32_768, 65_536, 32_768];
-
 #[test]
 fn buffers_that_are_too_short() {
-    assert_eq!(ENOUGH, [raw::HEAD_SIZE, raw::BLOCK_SIZE, raw::QUESTION_SIZE]);
+    assert_eq!(ENOUGH, [32_768, 65_536, 32_768]);
     let (mut buffers, head) = (Buffers::fresh(), head_of(32_768));
     let check = |buffers: &Buffers| {
         for short in TOO_SHORT {

@@ -1,15 +1,15 @@
 //! Where a text went wrong: the place that a refusal carries, and the section that it is counted from, however the stream is cut.
 
-use ouinet_reader::{Event, Reader, Refusal, Ring, Section, SectionKind};
+mod common;
 
-const STREAM: &[u8] = include_bytes!("../../../crates/ouiread/data/stream");
-const URI: &[u8] = include_bytes!("../../../crates/ouiread/data/uri");
-const RING: &[u8] = include_bytes!("../../../crates/ouiread/data/ring");
+use common::{ring, STREAM, URI};
+use ouinet_reader::{Event, Reader, Refusal, Section, SectionKind};
+
 const PIECES: [usize; 6] = [1, 2, 3, 7, 100, 65_536];
 
 /// The last event of a stream in pieces of one length, all answers yes.
 fn refused(stream: &[u8], piece: usize) -> (Refusal, Reader) {
-    let mut reader = Reader::new(Ring::parse(RING).expect("a good ring"), URI);
+    let mut reader = Reader::new(ring(), URI);
     let mut place = 0;
     while place < stream.len() {
         let end = stream.len().min(place + piece);

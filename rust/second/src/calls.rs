@@ -46,6 +46,9 @@ pub enum Word {
     Closed {
         total: u64,
     },
+    Complete {
+        total: u64,
+    },
     /// 1 and 2 are no events, the others are final.
     Refused(Refusal),
 }
@@ -57,6 +60,7 @@ impl From<Event> for Word {
             Event::HeadAccepted { status } => Word::HeadAccepted { status },
             Event::Block { offset, length } => Word::Block { offset, length },
             Event::Closed { total } => Word::Closed { total },
+            Event::Complete { total } => Word::Complete { total },
             Event::Refused(refusal) => Word::Refused(refusal),
         }
     }

@@ -11,12 +11,14 @@ pub struct Question {
     pub record: usize,
 }
 
+/// *Closed* says that the framing ended well, *complete* that the whole show has come (request #101).
 #[derive(Debug, Clone, PartialEq, Eq)]
 pub enum Event {
     Question(Question),
     HeadAccepted { status: u16 },
     Block { offset: u64, length: u32 },
     Closed { total: u64 },
+    Complete { total: u64 },
     Refused(Refusal),
 }
 
@@ -56,9 +58,9 @@ impl fmt::Display for Refusal {
 }
 
 impl Event {
-    /// Nothing comes after a closing or a refusal.
+    /// Nothing comes after a closing, whether the end was checked or not, or a refusal.
     pub fn is_final(&self) -> bool {
-        matches!(self, Event::Closed { .. } | Event::Refused(_))
+        matches!(self, Event::Closed { .. } | Event::Complete { .. } | Event::Refused(_))
     }
 }
 
@@ -70,6 +72,7 @@ impl fmt::Display for Event {
             Event::HeadAccepted { status } => write!(out, "head {status}"),
             Event::Block { offset, length } => write!(out, "block {offset} {length}"),
             Event::Closed { total } => write!(out, "closed {total}"),
+            Event::Complete { total } => write!(out, "complete {total}"),
             Event::Refused(refusal) => refusal.fmt(out),
         }
     }

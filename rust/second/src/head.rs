@@ -4,6 +4,7 @@
 //! limits are those of request #108.
 
 use crate::base64;
+use crate::ends::Given;
 use crate::event::Refusal;
 use crate::place::longest_beginning;
 use crate::ring::{self, Record};
@@ -21,6 +22,8 @@ pub const MOST_FIELDS: usize = 128;
 /// The most names in the signed list, the two pseudo names included.
 pub const MOST_LISTED: usize = 32;
 const MOST_BLOCK: u64 = 65_536;
+/// What the signed list begins with, in lower case.
+const PSEUDO: [&[u8]; 2] = [b"(response-status)", b"(created)"];
 
 /// What the rest of the reading needs from a good head.
 #[derive(Debug, Clone, PartialEq, Eq)]
@@ -28,11 +31,17 @@ pub struct Head {
     pub status: u16,
     pub id: Vec<u8>,
     pub block_size: u32,
+    /// The key that signed the head.
+    pub key: [u8; 32],
     pub signature: [u8; 64],
     pub record: usize,
     pub signing_string: Vec<u8>,
+    /// What the signing string has after `(created)`, with a line feed before each line.
+    pub signed_lines: Vec<u8>,
     /// The listed fields.
     pub signed: Vec<Signed>,
+    /// What it says about the end of the show, which is not judged here.
+    pub given: Given,
 }
 
 /// A listed field, as it is handed out: "The handed-out value of a repeated field is its first part; a count says how many
@@ -51,6 +60,11 @@ impl Head {
     /// The listed field of that name, compared without case.
     pub fn signed(&self, name: &[u8]) -> Option<&Signed> {
         self.signed.iter().find(|field| field.name.eq_ignore_ascii_case(name))
+    }
+
+    /// The signed list in lower case, the two pseudo names included.
+    pub fn listed(&self) -> impl Iterator<Item = &[u8]> {
+        PSEUDO.into_iter().chain(self.signed.iter().map(|field| &field.name[..]))
     }
 }
 
@@ -72,14 +86,18 @@ pub fn judge(bytes: &[u8], ring: &[Record], asked: &[u8]) -> Result<Head, Refusa
     if rules.bsigs.key != rules.sig0.key {
         return Err(Refusal::plain(12));
     }
+    let signed_lines: Vec<u8> = rules.listed.iter().flat_map(|field| field.line(&text)).collect();
     Ok(Head {
         status: text.status(),
         id: rules.injection.id.to_vec(),
         block_size: rules.bsigs.size,
+        key: rules.sig0.key,
         signature: rules.sig0.signature,
         record,
-        signing_string: signing_string(&text, rules.sig0.created, &rules.listed),
+        signing_string: signing_string(text.status(), rules.sig0.created, &signed_lines),
+        signed_lines,
         signed: rules.listed.into_iter().map(Listed::handed_out).collect(),
+        given: text.given(),
     })
 }
 
@@ -156,12 +174,15 @@ impl<'a> HeadText<'a> {
     }
 
     /// The three digits of the status line.
-    fn status_digits(&self) -> &'a [u8] {
-        &self.bytes[9..12]
+    fn status(&self) -> u16 {
+        self.bytes[9..12].iter().fold(0, |number, &digit| number * 10 + u16::from(digit - b'0'))
     }
 
-    fn status(&self) -> u16 {
-        self.status_digits().iter().fold(0, |number, &digit| number * 10 + u16::from(digit - b'0'))
+    /// What the fields say about the end of the show (#101).
+    fn given(&self) -> Given {
+        let mut given = Given::default();
+        self.fields.iter().for_each(|field| given.add(self.name(field), &self.bytes[field.value.clone()]));
+        given
     }
 }
 
@@ -201,7 +222,7 @@ struct Rules<'a> {
     uri: &'a [u8],
     injection: Injection<'a>,
     bsigs: BSigs,
-    sig0: Sig0<'a>,
+    sig0: Sig<'a>,
     /// What the list has after the two pseudo names, in its order.
     listed: Vec<Listed>,
 }
@@ -217,7 +238,7 @@ impl<'a> Rules<'a> {
         }
         let injection = Injection::parse(text.value(b"X-Ouinet-Injection")?)?;
         let bsigs = BSigs::parse(text.value(b"X-Ouinet-BSigs")?)?;
-        let sig0 = Sig0::parse(text.value(b"X-Ouinet-Sig0")?)?;
+        let sig0 = Sig::parse(text.value(b"X-Ouinet-Sig0")?)?;
         let listed = listed_fields(text, sig0.headers)?;
         Some(Rules { uri, injection, bsigs, sig0, listed })
     }
@@ -263,16 +284,17 @@ impl BSigs {
     }
 }
 
-/// `keyId`, `algorithm`, `created`, `headers` and `signature`, in that order ("X-Ouinet-Sig0").
-struct Sig0<'a> {
-    key: [u8; 32],
-    created: &'a [u8],
-    headers: &'a [u8],
-    signature: [u8; 64],
+/// `keyId`, `algorithm`, `created`, `headers` and `signature`, in that order ("X-Ouinet-Sig0"). `X-Ouinet-Sig1` is "written as
+/// Sig0" (#101). Of `headers` only the quotes are looked at here.
+pub(crate) struct Sig<'a> {
+    pub(crate) key: [u8; 32],
+    pub(crate) created: &'a [u8],
+    pub(crate) headers: &'a [u8],
+    pub(crate) signature: [u8; 64],
 }
 
-impl<'a> Sig0<'a> {
-    fn parse(value: &'a [u8]) -> Option<Self> {
+impl<'a> Sig<'a> {
+    pub(crate) fn parse(value: &'a [u8]) -> Option<Self> {
         let mut rest = Scan(value);
         let key = key_and_algorithm(&mut rest)?;
         rest.comma()?;
@@ -288,7 +310,7 @@ impl<'a> Sig0<'a> {
         if !rest.0.is_empty() {
             return None;
         }
-        Some(Sig0 { key, created, headers, signature })
+        Some(Sig { key, created, headers, signature })
     }
 }
 
@@ -313,6 +335,13 @@ impl Listed {
         (!values.is_empty()).then(|| Listed { name: name.to_ascii_lowercase(), values })
     }
 
+    /// Its line of the signing string, with a line feed before it. The values of a repeated field are joined "in order, with a
+    /// comma and a space" (#102).
+    fn line(&self, text: &HeadText) -> Vec<u8> {
+        let values: Vec<&[u8]> = self.values.iter().map(|value| &text.bytes[value.clone()]).collect();
+        signed_line(&self.name, &values.join(&b", "[..]))
+    }
+
     fn handed_out(self) -> Signed {
         Signed { name: self.name, value: self.values[0].clone(), count: self.values.len() }
     }
@@ -327,8 +356,7 @@ fn listed_fields(text: &HeadText, list: &[u8]) -> Option<Vec<Listed>> {
         return None;
     }
     let (pseudo, real) = names.split_at_checked(2)?;
-    let pseudo_is_right =
-        pseudo[0].eq_ignore_ascii_case(b"(response-status)") && pseudo[1].eq_ignore_ascii_case(b"(created)");
+    let pseudo_is_right = pseudo.iter().zip(PSEUDO).all(|(name, due)| name.eq_ignore_ascii_case(due));
     let holds = |name: &[u8]| real.iter().any(|listed| listed.eq_ignore_ascii_case(name));
     let all_needed = holds(b"X-Ouinet-Version") && holds(b"X-Ouinet-URI") && holds(b"X-Ouinet-Injection");
     if !pseudo_is_right || !all_needed || holds(b"X-Ouinet-Sig0") {
@@ -345,20 +373,16 @@ fn has_double(names: &[&[u8]]) -> bool {
 }
 
 /// For each listed name: lower case, colon, space, value; a line feed between, none at the end
-/// ("Signing string", below the list). The values of a repeated field are joined "in order, with a comma and a space" (#102).
-fn signing_string(text: &HeadText, created: &[u8], listed: &[Listed]) -> Vec<u8> {
-    let mut out = b"(response-status): ".to_vec();
-    out.extend_from_slice(text.status_digits());
-    out.extend_from_slice(b"\n(created): ");
-    out.extend_from_slice(created);
-    for field in listed {
-        out.push(b'\n');
-        out.extend_from_slice(&field.name);
-        out.extend_from_slice(b": ");
-        let values: Vec<&[u8]> = field.values.iter().map(|value| &text.bytes[value.clone()]).collect();
-        out.extend(values.join(&b", "[..]));
-    }
-    out
+/// ("Signing string", below the list). The lines after the two pseudo names each have their line feed before them.
+pub(crate) fn signing_string(status: u16, created: &[u8], lines: &[u8]) -> Vec<u8> {
+    let [status_name, created_name] = PSEUDO;
+    let status = status.to_string();
+    [status_name, b": ", status.as_bytes(), &signed_line(created_name, created), lines].concat()
+}
+
+/// A line of the signing string that is not its first.
+pub(crate) fn signed_line(name: &[u8], value: &[u8]) -> Vec<u8> {
+    [b"\n", name, b": ", value].concat()
 }
 
 /// What is left of a value that is being read from its front.

@@ -1,12 +1,14 @@
-//! A second reader for version 4 signature streams, written from paper 01 and requests #102, #105, #106 and #108 alone.
+//! A second reader for version 4 signature streams, written from paper 01 and requests #101, #102, #105, #106
+//! and #108 alone.
 //!
 //! It exists to be compared with the verified reader, so it shares nothing with it. The modules:
 //!
-//! * `sha512`, `base64`: the two codings the stream uses;
+//! * `sha512`, `sha256`, `base64`: the codings the stream uses; `sha2`: what the first two have in common;
 //! * `text`: characters, trimming, field lines and numbers;
 //! * `ring`: the key ring;
 //! * `other_show`: what is said of a head with another URI than the one asked for;
 //! * `head`, `chunk`, `trailer`: one judge for each kind of text in a stream;
+//! * `ends`: the judge of what the head and the trailer say about the whole show;
 //! * `place`: where a text went wrong, found by trying completions;
 //! * `message`: what a block's question asks about;
 //! * `event`: what a reading lists;
@@ -20,6 +22,7 @@
 pub mod base64;
 pub mod calls;
 pub mod chunk;
+pub mod ends;
 pub mod event;
 pub mod files;
 pub mod head;
@@ -29,6 +32,8 @@ pub mod place;
 pub mod plain;
 pub mod reader;
 pub mod ring;
+mod sha2;
+pub mod sha256;
 pub mod sha512;
 pub mod text;
 pub mod trailer;

@@ -7,8 +7,8 @@ use crate::sha512::sha512;
 /// before and the block for each later one.
 pub fn chain(before: Option<&[u8; 64]>, block: &[u8]) -> [u8; 64] {
     match before {
-        None => sha512(&[block]),
-        Some(hash) => sha512(&[hash, block]),
+        None => sha512([block]),
+        Some(hash) => sha512([&hash[..], block]),
     }
 }
 

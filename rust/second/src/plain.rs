@@ -4,10 +4,12 @@
 //! nothing of pieces; `calls` is built on it.
 
 use crate::chunk::{self, Before};
+use crate::ends::{self, End};
 use crate::event::{Event, Question, Refusal};
 use crate::head::{self, Head};
 use crate::message;
 use crate::ring::Record;
+use crate::sha256::sha256;
 use crate::text;
 use crate::trailer;
 use std::ops::Range;
@@ -62,7 +64,7 @@ pub fn read(bytes: &[u8], ring: &[Record], asked: &[u8], answers: &[bool], told:
         reading: Reading { events: Vec::new(), sections: Vec::new(), accepted: None },
     };
     match walk.stream(ring, asked) {
-        Ok(total) => walk.list(Event::Closed { total }),
+        Ok(last) => walk.list(last),
         Err(Stop::Refused(refusal)) => walk.list(Event::Refused(refusal)),
         // Where bytes ran out, all of them were gone over.
         Err(Stop::RanOut) if told => walk.list(Event::Refused(Refusal::plain(11))),
@@ -145,8 +147,8 @@ impl<'a> Walk<'a> {
         self.section_to(Kind::Trailer, trailer::END, trailer::LIMIT, Refusal::frame)
     }
 
-    /// The whole stream: head, body, trailer. Gives the body's total.
-    fn stream(&mut self, ring: &[Record], asked: &[u8]) -> Result<u64, Stop> {
+    /// The whole stream: head, body, trailer. Gives the last event of a stream that is not refused.
+    fn stream(&mut self, ring: &[Record], asked: &[u8]) -> Result<Event, Stop> {
         let bytes = self.section_to(Kind::Head, head::END, head::LIMIT, Refusal::head)?;
         let head = head::judge(bytes, ring, asked).map_err(Stop::Refused)?;
         self.ask(Question { message: head.signing_string.clone(), signature: head.signature, record: head.record })?;
@@ -155,11 +157,23 @@ impl<'a> Walk<'a> {
         let total = self.body(&head)?;
         let bytes = self.trailer_section()?;
         trailer::judge(bytes).map_err(Stop::Refused)?;
-        Ok(total)
+        match ends::judge(&head, bytes, total, || self.hash_of_body()).map_err(Stop::Refused)? {
+            End::Closed => Ok(Event::Closed { total }),
+            End::Asked(question) => {
+                self.ask(question)?;
+                Ok(Event::Complete { total })
+            }
+        }
+    }
+
+    /// The SHA-256 of all blocks released.
+    fn hash_of_body(&self) -> [u8; 32] {
+        let blocks = self.reading.events.iter().filter_map(|placed| placed.block.clone());
+        sha256(blocks.map(|range| &self.bytes[range]))
     }
 
     /// Chunk lines, data and data ends by turns, up to and with the 0 line and the release of the
-    /// last block.
+    /// last block. Gives the body's total.
     fn body(&mut self, head: &Head) -> Result<u64, Stop> {
         let mut total: u64 = 0;
         let mut number: u64 = 0;

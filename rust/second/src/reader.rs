@@ -2,11 +2,13 @@
 //! goes"). It keeps at most one head, one block, one chunk line and one trailer.
 
 use crate::chunk::{self, Before, ChunkLine};
+use crate::ends::{self, End};
 use crate::event::{Event, Question, Refusal};
 use crate::head::{self, Head};
 use crate::message;
 use crate::other_show;
 use crate::ring::Record;
+use crate::sha256::Sha256;
 use crate::trailer;
 
 /// A call that came when it had no place: bytes or an end while a question is open or after the
@@ -17,7 +19,7 @@ pub struct WrongTime;
 /// What comes next in the stream.
 enum Stage {
     Head,
-    HeadAsked(Head),
+    HeadAsked(Box<Head>),
     Line,
     Data {
         left: u32,
@@ -29,20 +31,22 @@ enum Stage {
         size: u32,
     },
     Trailer,
+    /// The whole show is in question.
+    EndAsked,
     Over,
 }
 
 /// The body as far as it has come.
 struct Body {
-    id: Vec<u8>,
-    record: usize,
-    block_size: u32,
+    head: Head,
     /// The number of the block that is gathered now or next.
     number: u64,
     /// The bytes of all blocks gathered.
     total: u64,
     /// The hash of the last released block.
     hash: Option<[u8; 64]>,
+    /// The hash of all released blocks together, in the making (request #101).
+    whole: Sha256,
     /// The block that is gathered or, after its release, handed out.
     block: Vec<u8>,
     /// Whether the block is whole and not yet released.
@@ -54,12 +58,11 @@ struct Body {
 impl Body {
     fn after(head: Head) -> Self {
         Body {
-            id: head.id,
-            record: head.record,
-            block_size: head.block_size,
+            head,
             number: 0,
             total: 0,
             hash: None,
+            whole: Sha256::new(),
             block: Vec::new(),
             waiting: false,
             out: false,
@@ -67,12 +70,12 @@ impl Body {
     }
 
     fn offset(&self) -> u64 {
-        self.number * u64::from(self.block_size)
+        self.number * u64::from(self.head.block_size)
     }
 
     fn before(&self) -> Before {
         Before {
-            block_size: self.block_size,
+            block_size: self.head.block_size,
             block: self.waiting.then_some(self.block.len() as u32),
             total: self.total,
         }
@@ -137,7 +140,7 @@ impl Reader {
         match std::mem::replace(&mut self.stage, Stage::Over) {
             Stage::HeadAsked(head) => {
                 let status = head.status;
-                self.body = Some(Body::after(head));
+                self.body = Some(Body::after(*head));
                 self.stage = Stage::Line;
                 Ok(Event::HeadAccepted { status })
             }
@@ -145,12 +148,14 @@ impl Reader {
                 let body = self.body.as_mut().ok_or(WrongTime)?;
                 let event = Event::Block { offset: body.offset(), length: body.block.len() as u32 };
                 body.hash = Some(hash);
+                body.whole.add(&body.block);
                 body.number += 1;
                 body.waiting = false;
                 body.out = true;
                 self.stage = after_line(size);
                 Ok(event)
             }
+            Stage::EndAsked => Ok(Event::Complete { total: self.body.as_ref().ok_or(WrongTime)?.total }),
             _ => Err(WrongTime),
         }
     }
@@ -164,7 +169,7 @@ impl Reader {
     }
 
     fn is_asking(&self) -> bool {
-        matches!(self.stage, Stage::HeadAsked(_) | Stage::BlockAsked { .. })
+        matches!(self.stage, Stage::HeadAsked(_) | Stage::BlockAsked { .. } | Stage::EndAsked)
     }
 
     fn is_over(&self) -> bool {
@@ -198,7 +203,7 @@ impl Reader {
             Stage::Line => self.line_byte(),
             Stage::DataEnd => self.data_end_byte(),
             Stage::Trailer => self.trailer_byte(),
-            Stage::Data { .. } | Stage::HeadAsked(_) | Stage::BlockAsked { .. } | Stage::Over => None,
+            Stage::Data { .. } | Stage::HeadAsked(_) | Stage::BlockAsked { .. } | Stage::EndAsked | Stage::Over => None,
         };
         (1, event)
     }
@@ -226,7 +231,7 @@ impl Reader {
                         signature: head.signature,
                         record: head.record,
                     };
-                    self.stage = Stage::HeadAsked(head);
+                    self.stage = Stage::HeadAsked(Box::new(head));
                     Event::Question(question)
                 }
                 Err(refusal) => {
@@ -259,9 +264,9 @@ impl Reader {
         };
         let hash = message::chain(body.hash.as_ref(), &body.block);
         let question = Question {
-            message: message::block_message(&body.id, body.offset(), &hash),
+            message: message::block_message(&body.head.id, body.offset(), &hash),
             signature,
-            record: body.record,
+            record: body.head.record,
         };
         self.stage = Stage::BlockAsked { hash, size: line.size };
         Some(Event::Question(question))
@@ -283,12 +288,18 @@ impl Reader {
 
     fn trailer_byte(&mut self) -> Option<Event> {
         if trailer::is_whole(&self.gathered) {
-            let judgement = trailer::judge(&self.gathered);
-            let total = self.body.as_ref()?.total;
-            return Some(match judgement {
-                Ok(()) => {
+            let Body { head, total, whole, .. } = self.body.as_ref()?;
+            let judged = trailer::judge(&self.gathered)
+                .and_then(|()| ends::judge(head, &self.gathered, *total, || whole.clone().finish()));
+            let total = *total;
+            return Some(match judged {
+                Ok(End::Closed) => {
                     self.stage = Stage::Over;
                     Event::Closed { total }
+                }
+                Ok(End::Asked(question)) => {
+                    self.stage = Stage::EndAsked;
+                    Event::Question(question)
                 }
                 Err(refusal) => self.refuse(refusal),
             });

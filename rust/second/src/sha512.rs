@@ -37,151 +37,42 @@ const ROUND: [u64; 80] = [
     0x4cc5d4becb3e42b6, 0x597f299cfc657e2a, 0x5fcb6fab3ad6faec, 0x6c44198c4a475817,
 ];
 
-/// The bytes one round of rounds eats.
-const UNIT: usize = 128;
-
-/// A hash in the making.
-pub struct Sha512 {
-    words: [u64; 8],
-    waiting: Vec<u8>,
-    total: u128,
+crate::sha2::sha2! {
+    Sha512, sha512, word: u64, length: u128, load: load, start: START, round: ROUND,
+    big_0: [28, 34, 39], big_1: [14, 18, 41], small_0: [1, 8, 7], small_1: [19, 61, 6],
 }
 
-impl Default for Sha512 {
-    fn default() -> Self {
-        Self::new()
-    }
-}
-
-impl Sha512 {
-    pub fn new() -> Self {
-        Sha512 { words: START, waiting: Vec::with_capacity(UNIT), total: 0 }
-    }
-
-    /// Takes more bytes of the hashed text.
-    pub fn add(&mut self, mut bytes: &[u8]) {
-        self.total += bytes.len() as u128;
-        if !self.waiting.is_empty() {
-            let lacking = UNIT - self.waiting.len();
-            let take = lacking.min(bytes.len());
-            self.waiting.extend_from_slice(&bytes[..take]);
-            bytes = &bytes[take..];
-            if self.waiting.len() < UNIT {
-                return;
-            }
-            mix(&mut self.words, &self.waiting);
-            self.waiting.clear();
-        }
-        let mut units = bytes.chunks_exact(UNIT);
-        for unit in &mut units {
-            mix(&mut self.words, unit);
-        }
-        self.waiting.extend_from_slice(units.remainder());
-    }
-
-    /// Ends the text: a one bit, zero bits, the length in bits as sixteen bytes.
-    pub fn finish(mut self) -> [u8; 64] {
-        let bits = self.total * 8;
-        let mut tail = vec![0x80u8];
-        while (self.waiting.len() + tail.len()) % UNIT != UNIT - 16 {
-            tail.push(0);
-        }
-        tail.extend_from_slice(&bits.to_be_bytes());
-        self.add(&tail);
-        let mut out = [0u8; 64];
-        for (place, word) in out.chunks_exact_mut(8).zip(self.words) {
-            place.copy_from_slice(&word.to_be_bytes());
-        }
-        out
-    }
-}
-
-/// The hash of parts put one after the other.
-pub fn sha512(parts: &[&[u8]]) -> [u8; 64] {
-    let mut hash = Sha512::new();
-    for part in parts {
-        hash.add(part);
-    }
-    hash.finish()
-}
-
-/// One unit of 128 bytes into the eight words.
-fn mix(words: &mut [u64; 8], unit: &[u8]) {
-    let mut schedule = [0u64; 80];
-    for (slot, bytes) in schedule.iter_mut().zip(unit.chunks_exact(8)) {
-        let mut eight = [0u8; 8];
-        eight.copy_from_slice(bytes);
-        *slot = u64::from_be_bytes(eight);
-    }
-    for t in 16..80 {
-        schedule[t] = small_1(schedule[t - 2])
-            .wrapping_add(schedule[t - 7])
-            .wrapping_add(small_0(schedule[t - 15]))
-            .wrapping_add(schedule[t - 16]);
-    }
-    let [mut a, mut b, mut c, mut d, mut e, mut f, mut g, mut h] = *words;
-    for t in 0..80 {
-        let first =
-            h.wrapping_add(big_1(e)).wrapping_add((e & f) ^ (!e & g)).wrapping_add(ROUND[t]).wrapping_add(schedule[t]);
-        let second = big_0(a).wrapping_add((a & b) ^ (a & c) ^ (b & c));
-        h = g;
-        g = f;
-        f = e;
-        e = d.wrapping_add(first);
-        d = c;
-        c = b;
-        b = a;
-        a = first.wrapping_add(second);
-    }
-    for (word, more) in words.iter_mut().zip([a, b, c, d, e, f, g, h]) {
-        *word = word.wrapping_add(more);
-    }
-}
-
-fn big_0(x: u64) -> u64 {
-    x.rotate_right(28) ^ x.rotate_right(34) ^ x.rotate_right(39)
-}
-
-fn big_1(x: u64) -> u64 {
-    x.rotate_right(14) ^ x.rotate_right(18) ^ x.rotate_right(41)
-}
-
-fn small_0(x: u64) -> u64 {
-    x.rotate_right(1) ^ x.rotate_right(8) ^ (x >> 7)
-}
-
-fn small_1(x: u64) -> u64 {
-    x.rotate_right(19) ^ x.rotate_right(61) ^ (x >> 6)
+fn load(bytes: &[u8]) -> u64 {
+    let mut eight = [0; 8];
+    eight.copy_from_slice(bytes);
+    u64::from_be_bytes(eight)
 }
 
 #[cfg(test)]
 mod tests {
     use super::*;
-
-    fn hex(bytes: &[u8]) -> String {
-        bytes.iter().map(|b| format!("{b:02x}")).collect()
-    }
+    use crate::sha2::testing::{check_parts, hex};
 
     #[test]
     fn published_vectors() {
         assert_eq!(
-            hex(&sha512(&[b""])),
+            hex(&sha512([&b""[..]])),
             "cf83e1357eefb8bdf1542850d66d8007d620e4050b5715dc83f4a921d36ce9ce\
              47d0d13c5d85f2b0ff8318d2877eec2f63b931bd47417a81a538327af927da3e"
         );
         assert_eq!(
-            hex(&sha512(&[b"abc"])),
+            hex(&sha512([&b"abc"[..]])),
             "ddaf35a193617abacc417349ae20413112e6fa4e89a97ea20a9eeee64b55d39a\
              2192992a274fc1a836ba3c23a3feebbd454d4423643ce80e2a9ac94fa54ca49f"
         );
         assert_eq!(
-            hex(&sha512(&[b"abcdefghbcdefghicdefghijdefghijkefghijklfghijklmghijklmn\
-                  hijklmnoijklmnopjklmnopqklmnopqrlmnopqrsmnopqrstnopqrstu"])),
+            hex(&sha512([&b"abcdefghbcdefghicdefghijdefghijkefghijklfghijklmghijklmn\
+                  hijklmnoijklmnopjklmnopqklmnopqrlmnopqrsmnopqrstnopqrstu"[..]])),
             "8e959b75dae313da8cf4f72814fc143f8f7779c6eb9f7fa17299aeadb6889018\
              501d289e4900f7e4331b99dec4b5433ac7d329eeb6dd26545e96e55b874be909"
         );
         assert_eq!(
-            hex(&sha512(&[&[b'a'; 1_000_000]])),
+            hex(&sha512([&[b'a'; 1_000_000][..]])),
             "e718483d0ce769644e2e42c7bc15b4638e1f98b13b2044285632a803afa973eb\
              de0ff244877ea60a4cb0432ce577c31beb009c5c2c49aa2e4eadb217ad8cc09b"
         );
@@ -189,21 +80,18 @@ mod tests {
 
     #[test]
     fn parts_make_no_difference() {
-        let text: Vec<u8> = (0..1000u32).map(|i| (i * 7 % 251) as u8).collect();
-        for length in [0, 1, 110, 111, 112, 113, 127, 128, 129, 240, 255, 256, 257, 1000] {
-            let whole = sha512(&[&text[..length]]);
-            for step in [1, 3, 64, 127, 128, 129] {
-                let parts: Vec<&[u8]> = text[..length].chunks(step).collect();
-                assert_eq!(sha512(&parts), whole, "length {length}, step {step}");
-            }
-        }
+        check_parts(
+            |parts| sha512(parts.iter().copied()),
+            &[0, 1, 110, 111, 112, 113, 127, 128, 129, 240, 255, 256, 257, 1000],
+            &[1, 3, 64, 127, 128, 129],
+        );
     }
 
     #[test]
     fn the_three_hashes_of_the_example() {
-        let first = sha512(&[b"Hello"]);
-        let second = sha512(&[&first, b" worl"]);
-        let third = sha512(&[&second, b"d!"]);
+        let first = sha512([&b"Hello"[..]]);
+        let second = sha512([&first[..], b" worl"]);
+        let third = sha512([&second[..], b"d!"]);
         assert_eq!(
             hex(&first),
             "3615f80c9d293ed7402687f94b22d58e529b8cc7916f8fac7fddf7fbd5af4cf7\

@@ -18,6 +18,12 @@ pub fn is_whole(bytes: &[u8]) -> bool {
     bytes == EMPTY || bytes.ends_with(END)
 }
 
+/// The names and trimmed values of a good trailer's fields, in their order.
+pub fn fields(bytes: &[u8]) -> impl Iterator<Item = (&[u8], &[u8])> {
+    let lines = text::lines(bytes).into_iter().map(|line| &bytes[line]);
+    lines.filter_map(|line| text::field_line(line).map(|field| (&line[field.name], &line[field.value])))
+}
+
 /// Whether these bytes are one trailer and each of its lines keeps the field line rule. The fields are neither counted nor
 /// compared.
 pub fn is_good(bytes: &[u8]) -> bool {
@@ -48,6 +54,13 @@ pub fn judge(bytes: &[u8]) -> Result<(), Refusal> {
 #[cfg(test)]
 mod tests {
     use super::*;
+
+    #[test]
+    fn names_and_values() {
+        let of = |bytes: &'static [u8]| -> Vec<(&[u8], &[u8])> { fields(bytes).collect() };
+        assert_eq!(of(b"\r\n"), []);
+        assert_eq!(of(b"a:\r\nB: \tc d \r\na:e\r\n\r\n"), [(&b"a"[..], &b""[..]), (b"B", b"c d"), (b"a", b"e")]);
+    }
 
     #[test]
     fn good_and_bad_text() {

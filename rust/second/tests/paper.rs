@@ -1,7 +1,11 @@
 //! The example of document 000 and the marked cases P1 to P12 of paper 01, held against the plain
 //! reading, the piecewise reader and the list of calls. Signatures here are stand-ins, since the
-//! readings ask about them and never check them.
+//! readings ask about them and never check them. The example's end is that of the paper, without what
+//! request #101 reads; `ends.rs` has it with the three fields.
 
+mod common;
+
+use common::{example, example_head, example_lines, ring, signature, EXAMPLE_URI as URI};
 use second::base64;
 use second::calls::{Calls, Holds, Word};
 use second::chunk::{self, Before};
@@ -13,21 +17,6 @@ use second::reader::Reader;
 use second::ring::Record;
 use second::text;
 
-const NINE_LINES: [&str; 9] = [
-    "question 219",
-    "head 200",
-    "question 83",
-    "block 0 5",
-    "question 83",
-    "block 5 5",
-    "question 84",
-    "block 10 2",
-    "closed 12",
-];
-
-/// The URI that is asked for.
-const URI: &[u8] = b"https://example.com/hello";
-
 const SIGNING_STRING: &str = "(response-status): 200\n\
     (created): 1584748800\n\
     x-ouinet-version: 4\n\
@@ -36,56 +25,13 @@ const SIGNING_STRING: &str = "(response-status): 200\n\
     date: Sat, 21 Mar 2020 00:00:00 GMT\n\
     content-type: text/plain";
 
-fn key_text() -> String {
-    format!("{}=", "A".repeat(43))
-}
-
-fn signature_text() -> String {
-    format!("{}==", "A".repeat(86))
-}
-
-fn ring() -> Vec<Record> {
-    vec![Record { key: [0; 32], first: 0, last: 999_999_999_999 }]
-}
-
-/// The head of the example with these values for injection and block size.
-fn head_with(injection: &str, size: &str) -> Vec<u8> {
-    format!(
-        "HTTP/1.1 200 OK\r\n\
-         X-Ouinet-Version: 4\r\n\
-         X-Ouinet-URI: https://example.com/hello\r\n\
-         X-Ouinet-Injection: {injection}\r\n\
-         Date: Sat, 21 Mar 2020 00:00:00 GMT\r\n\
-         Content-Type: text/plain\r\n\
-         X-Ouinet-Sig0: keyId=\"ed25519={key}\",algorithm=\"hs2019\",created=1584748800, \
-         headers=\"(response-status) (created) x-ouinet-version x-ouinet-uri x-ouinet-injection date content-type\",\
-         signature=\"{signature}\"\r\n\
-         X-Ouinet-BSigs: keyId=\"ed25519={key}\",algorithm=\"hs2019\",size={size}\r\n\
-         Transfer-Encoding: chunked\r\n\
-         Trailer: Digest, X-Ouinet-Data-Size, X-Ouinet-Sig1\r\n\
-         \r\n",
-        key = key_text(),
-        signature = signature_text(),
-    )
-    .into_bytes()
-}
-
 fn head() -> Vec<u8> {
-    head_with("id=qwertyuiop-12345,ts=1584748800", "5")
+    example_head("id=qwertyuiop-12345,ts=1584748800", "5")
 }
 
-fn example() -> Vec<u8> {
-    let mut stream = head();
-    let signature = signature_text();
-    stream.extend(
-        format!(
-            "5\r\nHello\r\n5;ouisig={signature}\r\n worl\r\n2;ouisig={signature}\r\nd!\r\n0;ouisig={signature}\r\n\
-             Digest: SHA-256=wFNeS+K3n/2TKRMFQ2v4iTFOSj+uwF7P/Lt98xrZ5Ro=\r\n\
-             X-Ouinet-Data-Size: 12\r\n\r\n"
-        )
-        .bytes(),
-    );
-    stream
+/// The example with a trailer that says nothing about the end of the show.
+fn closed_example() -> Vec<u8> {
+    example("Server: example\r\nX-Ouinet-Sig2: x\r\n")
 }
 
 fn plain_lines(stream: &[u8], answers: &[bool], told: bool) -> Vec<String> {
@@ -118,17 +64,18 @@ fn reader_lines(stream: &[u8], step: usize) -> (Vec<String>, Vec<u8>) {
 
 #[test]
 fn the_example_gives_the_nine_lines() {
-    assert_eq!(plain_lines(&example(), &[true; 4], true), NINE_LINES);
+    let nine_lines = example_lines(&["closed 12"]);
+    assert_eq!(plain_lines(&closed_example(), &[true; 4], true), nine_lines);
     for step in [1, 2, 3, 7, 100, 65_536] {
-        let (lines, body) = reader_lines(&example(), step);
-        assert_eq!(lines, NINE_LINES, "pieces of {step}");
+        let (lines, body) = reader_lines(&closed_example(), step);
+        assert_eq!(lines, nine_lines, "pieces of {step}");
         assert_eq!(body, b"Hello world!");
     }
 }
 
 #[test]
 fn the_example_cut_short_or_refused() {
-    let stream = example();
+    let stream = closed_example();
     let full = plain::read(&stream, &ring(), URI, &[true; 4], true);
     for length in 0..stream.len() {
         let mut expected: Vec<String> =
@@ -178,10 +125,10 @@ fn p5_an_empty_body() {
 fn p6_the_length_of_a_signature() {
     let before = Before { block_size: 5, block: Some(5), total: 5 };
     let judge = |text: &str| chunk::judge(format!("5;ouisig={text}\r\n").as_bytes(), &before);
-    assert!(judge(&signature_text()).is_ok());
+    assert!(judge(&signature()).is_ok());
     // The padding comes a character too early, and then the line's end does
-    assert_eq!(judge(&signature_text()[1..]), Err(Refusal::frame(9 + 85)));
-    assert_eq!(judge(&signature_text()[..87]), Err(Refusal::frame(9 + 87)));
+    assert_eq!(judge(&signature()[1..]), Err(Refusal::frame(9 + 85)));
+    assert_eq!(judge(&signature()[..87]), Err(Refusal::frame(9 + 87)));
 }
 
 #[test]
@@ -190,7 +137,7 @@ fn p7_base64() {
 }
 
 fn judged(injection: &str, size: &str) -> Result<(), Refusal> {
-    head::judge(&head_with(injection, size), &ring(), URI).map(|_| ())
+    head::judge(&example_head(injection, size), &ring(), URI).map(|_| ())
 }
 
 #[test]
@@ -233,7 +180,7 @@ fn p12_a_value_between_spaces() {
 #[test]
 fn a_list_of_calls() {
     let mut calls = Calls::new();
-    let stream = example();
+    let stream = closed_example();
     let enough = Holds::ENOUGH;
     let short = Holds { block: 65_535, ..enough };
     let refused = |number| Word::Refused(Refusal::plain(number));
@@ -288,13 +235,13 @@ fn a_list_of_calls() {
 
 #[test]
 fn places_of_the_example() {
-    let reading = plain::read(&example(), &ring(), URI, &[true; 4], true);
+    let reading = plain::read(&closed_example(), &ring(), URI, &[true; 4], true);
     let head_length = head().len();
     let places: Vec<usize> = reading.events.iter().map(|placed| placed.place).collect();
     let first = head_length + 3 + 7 + 99;
     let second = first + 7 + 99;
     let third = second + 4 + 99;
-    let whole = example().len();
+    let whole = closed_example().len();
     assert_eq!(places, [head_length, head_length, first, first, second, second, third, third, whole]);
     assert_eq!(reading.events[8].event, Event::Closed { total: 12 });
 }

@@ -1,6 +1,9 @@
-//! Ed25519, SHA-512 and unpredictable bytes through libsodium (Debian package libsodium-dev), for the generator, the signer
+//! Ed25519, SHA-512, SHA-256 and unpredictable bytes through libsodium (Debian package libsodium-dev), for the generator, the signer
 //! and the program that reads streams.
 
+mod sha256;
+
+pub use sha256::Sha256;
 use std::ffi::{c_int, c_uchar, c_ulonglong, c_void};
 use std::sync::Once;
 

@@ -7,11 +7,20 @@ use second::event::Event;
 use second::reader::Reader;
 use second::ring::Record;
 
+/// An answer's letter.
+pub fn letter(yes: bool) -> u8 {
+    if yes {
+        b'y'
+    } else {
+        b'n'
+    }
+}
+
 /// The text of an answers file. Some letters are followed by white space, which counts for nothing.
 pub fn text(answers: &[bool], rng: &mut Rng) -> Vec<u8> {
     let mut out = Vec::with_capacity(answers.len() + 8);
     for &yes in answers {
-        out.push(if yes { b'y' } else { b'n' });
+        out.push(letter(yes));
         if rng.one_in(4) {
             out.extend(*rng.pick(&[&b"\n"[..], b" ", b"\t", b"\r\n", b"\n\n"]));
         }

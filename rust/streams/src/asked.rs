@@ -211,7 +211,7 @@ impl Table<'_> {
 
 /// A random stream: asked for by its own URI, or by another one, and then perhaps with a broken rule or damage.
 pub fn case(rules: &[Rule], rng: &mut Rng) -> Case {
-    let plan = random::full_plan(rng);
+    let plan = random::bare_full_plan(rng);
     let mut case = match rng.below(6) {
         0 => return Case::whole("a random stream, asked for", &plan.build(), Answering::Verified, rng),
         1 => {

@@ -1,4 +1,4 @@
-//! Base64 with padding, encoding only.
+//! Base64 with padding: encoding, and how an encoding looks.
 
 const LETTERS: &[u8; 64] = b"ABCDEFGHIJKLMNOPQRSTUVWXYZabcdefghijklmnopqrstuvwxyz0123456789+/";
 
@@ -17,9 +17,33 @@ pub fn encode(bytes: &[u8]) -> Vec<u8> {
     out
 }
 
+/// Whether the text is what `encode` makes of some bytes, so many of them: then its spare bits are zero.
+pub fn is_of(text: &[u8], count: usize) -> bool {
+    let letters = (8 * count).div_ceil(6);
+    let spare = 6 * letters - 8 * count;
+    let value = |letter: &u8| LETTERS.iter().position(|other| other == letter);
+    text.len() == count.div_ceil(3) * 4
+        && text[..letters].iter().all(|letter| value(letter).is_some())
+        && text[letters..].iter().all(|&byte| byte == b'=')
+        && text[..letters].last().and_then(value).is_none_or(|last| last % (1 << spare) == 0)
+}
+
 #[cfg(test)]
 mod tests {
     use super::*;
+
+    #[test]
+    fn what_is_an_encoding() {
+        for count in [0, 1, 2, 3, 4, 32, 64] {
+            let text = encode(&b"\xff\0\x55"[..].repeat(22)[..count]);
+            for other in 0..=70 {
+                assert_eq!(is_of(&text, other), other == count, "{count} bytes, {other}");
+            }
+        }
+        for wrong in ["Zh==", "Zg=", "Zg=A", "Z===", "====", "Zg-=", "Zg  "] {
+            assert!(!is_of(wrong.as_bytes(), 1), "{wrong}");
+        }
+    }
 
     #[test]
     fn published_vectors() {

@@ -110,7 +110,7 @@ pub struct Case {
 }
 
 /// How the questions of a case are answered.
-#[derive(Clone, Copy)]
+#[derive(Clone, Copy, Debug)]
 pub enum Answering {
     AllYes,
     /// So many yes, then a no.
@@ -127,11 +127,12 @@ fn released(lines: &[String]) -> usize {
 }
 
 impl Case {
-    /// A case whose all-yes lines are known. Whatever is asked is then signed as it should be, so
-    /// verified answers must all be yes; this holds the second reader's messages against libsodium.
+    /// A case whose all-yes lines are known. Whatever is asked is then signed as it should be, but for an end that is known not to
+    /// be, so verified answers must all be yes; this holds the second reader's messages against libsodium.
     pub fn known(label: impl Into<String>, known: Known, answering: Answering, rng: &mut Rng) -> Self {
-        let Known { stream, ring, uri, lines: all_yes, body } = known;
+        let Known { stream, ring, uri, lines: all_yes, body, end_is_signed } = known;
         let questions = all_yes.iter().filter(|line| line.starts_with("question")).count();
+        let asks_about_end = all_yes.last().is_some_and(|last| last.starts_with("complete"));
         let list = match answering {
             Answering::AllYes => vec![true; questions + rng.below(3)],
             Answering::NoAfter(count) => [vec![true; count], vec![false]].concat(),
@@ -139,12 +140,21 @@ impl Case {
             Answering::Verified => answers::verified(&stream, &ring, &uri),
         };
         if matches!(answering, Answering::Verified) {
-            let all_good = list.len() == questions && list.iter().all(|&yes| yes);
-            assert!(all_good, "an honest signature is not verified: the second reader asks about a wrong message");
+            let mut due = vec![true; questions];
+            if asks_about_end {
+                due[questions - 1] = end_is_signed;
+            }
+            assert_eq!(
+                list, due,
+                "signatures are not verified as they were made: the second reader asks about a wrong message"
+            );
         }
         let lines = answers::lines_with(&all_yes, &list);
         let body = body[..released(&lines)].to_vec();
-        let text = answers::text(&list, rng);
+        // The answer about the end is written without drawing, so that cases stay what they were before there was one
+        let (others, about_end) = list.split_at(list.len() - usize::from(asks_about_end && list.len() >= questions));
+        let mut text = answers::text(others, rng);
+        text.extend(about_end.iter().map(|&yes| answers::letter(yes)));
         Case {
             label: label.into(),
             cuts: cuts::any(&stream, rng),

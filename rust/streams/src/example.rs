@@ -9,8 +9,8 @@ use crate::sodium::Signer;
 /// The seed of the test key. It is public and good for nothing else.
 pub const TEST_SEED: [u8; 32] = *b"a key for tests, known to anyone";
 
-/// The lines that paper 01 gives for the example.
-pub const LINES: [&str; 9] = [
+/// The lines that paper 01 gives for the example, with the end that request #101 gives it.
+pub const LINES: [&str; 10] = [
     "question 219",
     "head 200",
     "question 83",
@@ -19,7 +19,8 @@ pub const LINES: [&str; 9] = [
     "block 5 5",
     "question 84",
     "block 10 2",
-    "closed 12",
+    "question 303",
+    "complete 12",
 ];
 
 const TS: &str = "1584748800";
@@ -98,7 +99,7 @@ mod tests {
     use super::*;
 
     #[test]
-    fn the_generator_itself_expects_the_nine_lines() {
+    fn the_generator_itself_expects_these_lines() {
         assert_eq!(plan().build().lines(), LINES);
     }
 }

@@ -40,7 +40,7 @@ fn example_case(label: String, expected: Expected) -> Case {
         ring: ring_text(&built.ring),
         uri: built.uri,
         naming: Naming::Once,
-        answers: b"yyyy".to_vec(),
+        answers: b"yyyyy".to_vec(),
         cuts: Some(b"65536\n".to_vec()),
         lack: None,
         through_pipe: false,
@@ -133,7 +133,7 @@ fn answers() -> Vec<Case> {
         ("another letter first", b"x", 1),
         ("a capital letter", b"yY", 1),
         ("another letter on line 3", b"y\ny\nyes\n", 3),
-        ("a digit behind what is needed", b"y\ny\ny\ny\n1\n", 5),
+        ("a digit behind what is needed", b"y\ny\ny\ny\ny\n1\n", 6),
         ("a zero byte", b"y\0y", 1),
         ("a byte of 255", b"y\n\xff", 2),
         ("another letter on line 1001", &far, 1001),
@@ -180,33 +180,34 @@ fn cuts() -> Vec<Case> {
 
 /// Odd files that are good.
 fn good() -> Vec<Case> {
+    let all = example::LINES.len();
     let exactly = |count: usize| Expected::Exactly {
         lines: example::LINES[..count].iter().map(|line| line.to_string()).collect(),
-        body: b"Hello world!"[..if count < 9 { 5 } else { 12 }].to_vec(),
+        body: b"Hello world!"[..if count < all { 5 } else { 12 }].to_vec(),
     };
     let mut cases = Vec::new();
-    let mut case = example_case("ring without a last line feed".to_string(), exactly(9));
+    let mut case = example_case("ring without a last line feed".to_string(), exactly(all));
     case.ring.pop();
     cases.push(case);
-    let mut case = example_case("ring with seconds of 0 and 2^64-1".to_string(), exactly(9));
+    let mut case = example_case("ring with seconds of 0 and 2^64-1".to_string(), exactly(all));
     case.ring = [&case.ring[..44], b" 0 18446744073709551615\n"].concat();
     cases.push(case);
-    let mut case = example_case("answers with white space".to_string(), exactly(9));
-    case.answers = b" \n\t y\r\n\ny  \n\n\ty\ny\n\n".to_vec();
+    let mut case = example_case("answers with white space".to_string(), exactly(all));
+    case.answers = b" \n\t y\r\n\ny  \n\n\ty\ny\n\ny".to_vec();
     cases.push(case);
-    let mut case = example_case("answers far apart".to_string(), exactly(9));
-    case.answers = [&b" ".repeat(511)[..], b"yy", &b"\n".repeat(1024), b"y", &b"\t".repeat(5000), b"y"].concat();
+    let mut case = example_case("answers far apart".to_string(), exactly(all));
+    case.answers = [&b" ".repeat(511)[..], b"yy", &b"\n".repeat(1024), b"yy", &b"\t".repeat(5000), b"y"].concat();
     cases.push(case);
-    let mut case = example_case("more answers than questions".to_string(), exactly(9));
+    let mut case = example_case("more answers than questions".to_string(), exactly(all));
     case.answers = b"y".repeat(5000);
     cases.push(case);
     let mut case = example_case("answers that run out".to_string(), exactly(5));
     case.answers = b"yy\n".to_vec();
     cases.push(case);
-    let mut case = example_case("cuts of 4,096 lines".to_string(), exactly(9));
+    let mut case = example_case("cuts of 4,096 lines".to_string(), exactly(all));
     case.cuts = Some(b"1\n".repeat(4096));
     cases.push(case);
-    let mut case = example_case("cuts with many zeros".to_string(), exactly(9));
+    let mut case = example_case("cuts with many zeros".to_string(), exactly(all));
     case.cuts = Some([&b"0\n".repeat(50)[..], b"3"].concat());
     cases.push(case);
     cases

@@ -4,10 +4,11 @@
 //!
 //! * `rng`: the seeded numbers;
 //! * `limits`: the limits that cases come to;
-//! * `sodium`: Ed25519 and SHA-512, a package of its own;
-//! * `base64`: encoding;
+//! * `sodium`: Ed25519, SHA-512 and SHA-256, a package of its own;
+//! * `base64`: encoding, and how an encoding looks;
 //! * `head`: a head as an editable list of lines;
 //! * `plan`: what an honest stream is made from, and how it is built;
+//! * `end`: what is said about the end of a show, and what comes of it;
 //! * `random`: plans drawn at random;
 //! * `answers`, `cuts`: two further files of a case;
 //! * `case`: a case and what is expected of it;
@@ -17,6 +18,7 @@
 //! * `repeated`: heads in which a name comes in several lines;
 //! * `asked`: streams asked for by their own URI, or by another one;
 //! * `longer`: heads and trailers beyond paper 01's own limits;
+//! * `ends`: shows that say where they end, rightly or wrongly;
 //! * `damage`: bytes changed, deleted, inserted, cut off;
 //! * `wrong_text`: damage to the text of a section;
 //! * `inputs`: malformed files;
@@ -33,6 +35,8 @@ pub mod bounds;
 pub mod case;
 pub mod cuts;
 pub mod damage;
+pub mod end;
+pub mod ends;
 pub mod example;
 pub mod head;
 pub mod inputs;

@@ -204,7 +204,7 @@ pub fn case(rng: &mut Rng) -> Case {
 
 /// An honest random plan with a head of more fields or bytes than there could be before, or with such a trailer; now and then full.
 pub fn plan(rng: &mut Rng) -> Plan {
-    let mut plan = random::full_plan(rng);
+    let mut plan = random::bare_full_plan(rng);
     let (many, long) = (rng.one_in(2), rng.one_in(2));
     if many {
         let count = if rng.one_in(3) { FIELDS } else { rng.between(before::FIELDS + 1, FIELDS) };
@@ -234,7 +234,7 @@ fn fill_head(plan: &mut Plan, length: usize, rng: &mut Rng) {
 
 /// A head that is a few bytes too long, or many.
 fn too_long_case(rng: &mut Rng) -> Case {
-    let mut plan = random::full_plan(rng);
+    let mut plan = random::bare_full_plan(rng);
     let more = *rng.pick(&[1, 1, 2, 3, 4, 1000]);
     fill_head(&mut plan, SECTION + more, rng);
     Case::refused_head(Refusal::head(SECTION), format!("a random head, {more} bytes too long"), &plan.build(), rng)
@@ -242,7 +242,7 @@ fn too_long_case(rng: &mut Rng) -> Case {
 
 /// A head with a field too many, or several.
 fn too_many_case(rng: &mut Rng) -> Case {
-    let mut plan = random::full_plan(rng);
+    let mut plan = random::bare_full_plan(rng);
     let more = rng.between(1, 3);
     random::add_many_fields(&mut plan, FIELDS + more, rng);
     let built = plan.build();

@@ -84,7 +84,7 @@ fn write_case(case: &Case, folder: &Path) -> Result<(), String> {
 fn write_example(folder: &Path) -> Result<(), String> {
     let mut case = Case::whole("the example", &example::plan().build(), Answering::AllYes, &mut Rng::new(0));
     case.cuts = None;
-    case.answers = b"yyyy\n".to_vec();
+    case.answers = b"yyyyy\n".to_vec();
     write_case(&case, folder)
 }
 

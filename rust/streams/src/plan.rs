@@ -3,6 +3,7 @@
 //! all answers are yes.
 
 use crate::base64;
+use crate::end;
 use crate::head::{Field, Head};
 use crate::sodium::{self, Signer};
 
@@ -100,6 +101,8 @@ pub struct Built {
     pub ring: Vec<RingRecord>,
     /// The URI to ask for.
     pub uri: Vec<u8>,
+    /// Whether the signature over the whole show is right, if a reader asks about it.
+    pub end_is_signed: bool,
 }
 
 /// A stream, what a reader is given beside it, and the lines that it then writes, all yes. The body is the one that was signed.
@@ -109,12 +112,20 @@ pub struct Known {
     pub uri: Vec<u8>,
     pub lines: Vec<String>,
     pub body: Vec<u8>,
+    pub end_is_signed: bool,
 }
 
 impl Built {
     /// These bytes in place of the stream's own, and the lines that a reader writes for them.
     pub fn known(&self, stream: Vec<u8>, lines: Vec<String>) -> Known {
-        Known { stream, ring: self.ring.clone(), uri: self.uri.clone(), lines, body: self.body.clone() }
+        Known {
+            stream,
+            ring: self.ring.clone(),
+            uri: self.uri.clone(),
+            lines,
+            body: self.body.clone(),
+            end_is_signed: self.end_is_signed,
+        }
     }
 
     pub fn bytes(&self) -> Vec<u8> {
@@ -193,49 +204,16 @@ impl Plan {
         self.field("X-Ouinet-Injection").value = [b"id=", id, b",ts=", ts].concat();
     }
 
-    fn key_id(&self) -> Vec<u8> {
-        [b"keyId=\"ed25519=", &base64::encode(&self.signer.public)[..], b"\""].concat()
-    }
-
     fn bsigs(&self) -> Vec<u8> {
         let size = self.block_size.to_string();
         let [gap_1, gap_2, ..] = &self.gaps;
-        [&self.key_id()[..], b",", gap_1, b"algorithm=\"hs2019\",", gap_2, b"size=", size.as_bytes()].concat()
+        [&key_id(&self.signer)[..], b",", gap_1, b"algorithm=\"hs2019\",", gap_2, b"size=", size.as_bytes()].concat()
     }
 
-    fn sig0(&self, signature: &[u8; 64]) -> Vec<u8> {
-        let [_, _, gap_1, gap_2, gap_3, gap_4] = &self.gaps;
-        let mut list = self.pseudo.clone();
-        for name in &self.listed {
-            list.push(b' ');
-            list.extend(name);
-        }
-        [
-            &self.key_id()[..],
-            b",",
-            gap_1,
-            b"algorithm=\"hs2019\",",
-            gap_2,
-            b"created=",
-            &self.created,
-            b",",
-            gap_3,
-            b"headers=\"",
-            &list,
-            b"\",",
-            gap_4,
-            b"signature=\"",
-            &base64::encode(signature),
-            b"\"",
-        ]
-        .concat()
-    }
-
-    /// The text that the head's signature covers, with the values of a name's lines made one by
-    /// `join`. A listed name that is no field stands for nothing, so that lists can be broken.
-    fn signing_string(&self, fields: &[Field], join: &Join) -> Vec<u8> {
-        let mut lines =
-            vec![[b"(response-status): ", &self.status[..]].concat(), [b"(created): ", &self.created[..]].concat()];
+    /// The lines of the text that the head's signature covers, or the beginning of those of Sig1's with its own `created`, with the
+    /// values of a name's lines made one by `join`. A listed name that is no field stands for nothing, so that lists can be broken.
+    pub(crate) fn signed_lines(&self, created: &[u8], fields: &[Field], join: &Join) -> Vec<Vec<u8>> {
+        let mut lines = vec![[b"(response-status): ", &self.status[..]].concat(), [b"(created): ", created].concat()];
         for name in &self.listed {
             let same = fields.iter().filter(|field| field.name.eq_ignore_ascii_case(name));
             let values: Vec<&[u8]> = same.map(|field| &field.value[..]).collect();
@@ -243,7 +221,22 @@ impl Plan {
                 lines.push([&name.to_ascii_lowercase()[..], b": ", &join(&values)].concat());
             }
         }
-        lines.join(&b'\n')
+        lines
+    }
+
+    fn signing_string(&self, fields: &[Field], join: &Join) -> Vec<u8> {
+        self.signed_lines(&self.created, fields, join).join(&b'\n')
+    }
+
+    /// The fields of the head as it is sent.
+    pub(crate) fn sent_fields(&self) -> Vec<Field> {
+        self.build_head(&joined).0.fields
+    }
+
+    /// The signed list without its quotes.
+    pub(crate) fn list_text(&self) -> Vec<u8> {
+        let names = std::iter::once(&self.pseudo).chain(&self.listed);
+        names.map(|name| &name[..]).collect::<Vec<_>>().join(&b' ')
     }
 
     /// Builds the head, signed over the text that `join` makes; also gives the length of the text
@@ -256,7 +249,8 @@ impl Plan {
         head.set("X-Ouinet-BSigs", &self.bsigs());
         let due = self.signing_string(&head.fields, &joined).len();
         let message = self.signing_string(&head.fields, join);
-        head.set("X-Ouinet-Sig0", &self.sig0(&self.signer.sign(&message)));
+        let [_, _, gaps @ ..] = &self.gaps;
+        head.set("X-Ouinet-Sig0", &signature_field(&self.signer, &self.created, &self.list_text(), gaps, &message));
         (head, due)
     }
 
@@ -288,12 +282,9 @@ impl Plan {
         }
         parts.push(self.line(Kind::ZeroLine, 0, pending));
         let body = self.blocks.concat();
-        parts.push(Part {
-            kind: Kind::Trailer,
-            bytes: self.trailer.clone(),
-            lines: vec![format!("closed {}", body.len())],
-        });
-        Built { head, parts, body, ring: self.ring.clone(), uri: self.uri() }
+        let last = end::reckon(self, &head.fields, &body);
+        parts.push(Part { kind: Kind::Trailer, bytes: self.trailer.clone(), lines: last.lines(body.len()) });
+        Built { head, parts, body, ring: self.ring.clone(), uri: self.uri(), end_is_signed: last.is_signed() }
     }
 
     /// A chunk line, with the signature of the block before if there is one.
@@ -310,11 +301,45 @@ impl Plan {
     }
 }
 
+fn key_id(signer: &Signer) -> Vec<u8> {
+    [b"keyId=\"ed25519=", &base64::encode(&signer.public)[..], b"\""].concat()
+}
+
+/// The value of `X-Ouinet-Sig0`, or of `X-Ouinet-Sig1`, with these blanks after its commas, signed over the message.
+pub(crate) fn signature_field(
+    signer: &Signer,
+    created: &[u8],
+    list: &[u8],
+    gaps: &[Vec<u8>; 4],
+    message: &[u8],
+) -> Vec<u8> {
+    let [gap_1, gap_2, gap_3, gap_4] = gaps;
+    [
+        &key_id(signer)[..],
+        b",",
+        gap_1,
+        b"algorithm=\"hs2019\",",
+        gap_2,
+        b"created=",
+        created,
+        b",",
+        gap_3,
+        b"headers=\"",
+        list,
+        b"\",",
+        gap_4,
+        b"signature=\"",
+        &base64::encode(&signer.sign(message)),
+        b"\"",
+    ]
+    .concat()
+}
+
 /// How the values of a name's lines are made one.
 pub type Join = dyn Fn(&[&[u8]]) -> Vec<u8>;
 
 /// The right way: in order, with a comma and a space between (request #102).
-fn joined(values: &[&[u8]]) -> Vec<u8> {
+pub(crate) fn joined(values: &[&[u8]]) -> Vec<u8> {
     values.join(&b", "[..])
 }
 

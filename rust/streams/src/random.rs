@@ -1,5 +1,6 @@
-//! Plans drawn at random: sizes, field orders, cases, blanks, key rings; now and then a long head or trailer.
+//! Plans drawn at random: sizes, field orders, cases, blanks, key rings; now and then a long head or trailer, or an end of the show.
 
+use crate::ends::{self, faults::FAULTS};
 use crate::head::Field;
 use crate::limits::{before, SECTION};
 use crate::plan::{blocks_of, Plan, RingRecord, SizeStyle};
@@ -15,17 +16,38 @@ pub(crate) const BLANKS: [&[u8]; 6] = [b"", b" ", b"  ", b"\t", b" \t", b"\t\t  
 const MOST_RANDOM_FIELDS: usize = 120;
 const MOST_RANDOM_VALUE: usize = 22_000;
 
-/// An honest plan of any shape.
+/// An honest plan of any shape, but for its end, which now and then is told, and then now and then wrongly.
 pub fn plan(rng: &mut Rng) -> Plan {
+    let plan = bare_plan(rng);
+    maybe_ended(plan, rng)
+}
+
+/// Such a plan with two full blocks at least and a short one at the end, so that every rule can be broken on it.
+pub fn full_plan(rng: &mut Rng) -> Plan {
+    let plan = bare_full_plan(rng);
+    maybe_ended(plan, rng)
+}
+
+/// The end (request #101) is drawn apart, so that neither the plan nor what is drawn after it depends on it.
+fn maybe_ended(mut plan: Plan, rng: &Rng) -> Plan {
+    let mut rng = rng.apart();
+    if rng.one_in(3) && ends::has_room(&plan) {
+        let fault = rng.one_in(4).then(|| *rng.pick(&FAULTS));
+        ends::put_any(&mut plan, fault, &mut rng);
+    }
+    plan
+}
+
+/// A plan of any shape that says nothing about its end.
+pub fn bare_plan(rng: &mut Rng) -> Plan {
     let block_size = block_size(rng);
     let length = body_length(block_size, rng);
     let body = rng.bytes(length);
     plan_with(block_size, blocks_of(&body, block_size), rng)
 }
 
-/// An honest plan with two full blocks at least and a short one at the end, so that every rule can
-/// be broken on it.
-pub fn full_plan(rng: &mut Rng) -> Plan {
+/// A full plan that says nothing about its end.
+pub fn bare_full_plan(rng: &mut Rng) -> Plan {
     let block_size = rng.between(2, 200);
     let length = block_size * rng.between(2, 4) + rng.between(1, block_size - 1);
     let body = rng.bytes(length);
@@ -215,7 +237,7 @@ fn any_id(rng: &mut Rng) -> Vec<u8> {
     rng.letters(ID_BYTES, length)
 }
 
-fn any_second(rng: &mut Rng) -> u64 {
+pub(crate) fn any_second(rng: &mut Rng) -> u64 {
     let digits = rng.between(0, 12) as u32;
     rng.next_u64() % 10u64.pow(digits)
 }

@@ -327,7 +327,7 @@ pub fn plan(rng: &mut Rng) -> Plan {
 
 /// Such a plan with so many fields at most.
 fn plan_of(most: usize, rng: &mut Rng) -> Plan {
-    let mut plan = random::full_plan(rng);
+    let mut plan = random::bare_full_plan(rng);
     for _ in 0..rng.between(1, 3) {
         let room = most.saturating_sub(plan.fields.len());
         if room < 2 {

@@ -25,6 +25,12 @@ impl Rng {
         Rng::new(seed ^ split_mix(&mut start))
     }
 
+    /// Numbers that depend on what these have come to, without drawing any of them.
+    pub fn apart(&self) -> Self {
+        let [a, b, c, d] = self.state;
+        Rng::new(a ^ b.rotate_left(16) ^ c.rotate_left(32) ^ d.rotate_left(48))
+    }
+
     pub fn next_u64(&mut self) -> u64 {
         let [a, b, c, d] = self.state;
         let result = b.wrapping_mul(5).rotate_left(7).wrapping_mul(9);

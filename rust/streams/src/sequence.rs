@@ -1,10 +1,11 @@
-//! The cases of a seed, in order: first the fixed tables, then files of URIs, repeated fields, asked URIs and longer heads, then damaged text,
-//! then damage at every place (in an order that the seed shuffles) and random streams by turns.
+//! The cases of a seed, in order: first the fixed tables, then files of URIs, repeated fields, asked URIs, longer heads and ends of shows, then
+//! damaged text, then damage at every place (in an order that the seed shuffles) and random streams by turns.
 
 use crate::asked;
 use crate::bounds;
 use crate::case::{Answering, Case};
 use crate::damage::{self, Hit};
+use crate::ends;
 use crate::example;
 use crate::inputs;
 use crate::longer;
@@ -26,12 +27,13 @@ pub enum Group {
     Repeated,
     Asked,
     Longer,
+    Ends,
     Text,
     Damage,
     Mixed,
 }
 
-pub const GROUPS: [(&str, Group); 10] = [
+pub const GROUPS: [(&str, Group); 11] = [
     ("example", Group::Example),
     ("rules", Group::Rules),
     ("bounds", Group::Bounds),
@@ -39,6 +41,7 @@ pub const GROUPS: [(&str, Group); 10] = [
     ("repeated", Group::Repeated),
     ("asked", Group::Asked),
     ("longer", Group::Longer),
+    ("ends", Group::Ends),
     ("text", Group::Text),
     ("damage", Group::Damage),
     ("mixed", Group::Mixed),
@@ -66,7 +69,7 @@ pub struct Sequence {
     number: u64,
     mixed: bool,
     fixed: VecDeque<Case>,
-    /// Files of a URI, repeated fields, asked URIs and longer heads: they do not count, so that no other case depends on them.
+    /// Files of a URI, repeated fields, asked URIs, longer heads and ends: they do not count, so that no other case depends on them.
     apart: VecDeque<Case>,
     /// How many cases of damaged text are left.
     texts: usize,
@@ -108,6 +111,9 @@ impl Sequence {
         }
         if has(Group::Longer) {
             apart.extend(longer::all(seed));
+        }
+        if has(Group::Ends) {
+            apart.extend(ends::all(seed));
         }
         let texts = if has(Group::Text) { wrong_text::COUNT } else { 0 };
         Sequence { seed, number: 0, mixed: has(Group::Mixed), fixed, apart, texts, rules, small, hits }

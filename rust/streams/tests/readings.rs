@@ -9,9 +9,11 @@ use second::reader::Reader;
 use second::ring::Record;
 use std::collections::BTreeMap;
 use streams::case::{Case, Expected};
+use streams::end;
+use streams::ends;
 use streams::example;
 use streams::limits;
-use streams::plan::RingRecord;
+use streams::plan::{Built, RingRecord};
 use streams::repeated;
 use streams::rng::Rng;
 use streams::sequence::{all_groups, Group, Sequence};
@@ -120,7 +122,7 @@ fn by_calls(stream: &[u8], inputs: &Inputs) -> (Vec<Word>, Vec<u8>) {
             };
             let outcome = calls.answer(Holds::ENOUGH, yes);
             note(&calls, outcome, &mut words);
-            if matches!(words.last(), Some(Word::Refused(_))) {
+            if matches!(words.last(), Some(Word::Refused(_) | Word::Complete { .. })) {
                 return (words, body);
             }
         }
@@ -152,7 +154,7 @@ fn check(case: &Case, with_calls: bool) {
 #[test]
 fn reader_and_plain_reading_agree() {
     let groups: Vec<Group> = all_groups().into_iter().filter(|&group| group != Group::Text).collect();
-    for case in Sequence::new(11, &groups).take(4250).chain(Sequence::new(11, &[Group::Text]).take(1000)) {
+    for case in Sequence::new(11, &groups).take(5600).chain(Sequence::new(11, &[Group::Text]).take(1000)) {
         check(&case, false);
     }
 }
@@ -161,8 +163,9 @@ fn reader_and_plain_reading_agree() {
 fn calls_agree_on_short_streams() {
     let short = |groups: &[Group]| Sequence::new(12, groups).filter(|case| case.stream.len() < 3000);
     let cases = short(&[Group::Example, Group::Damage, Group::Mixed]).take(150);
-    for mut case in
-        cases.chain(short(&[Group::Text]).take(60)).chain(short(&[Group::Repeated, Group::Asked]).step_by(5))
+    for mut case in cases
+        .chain(short(&[Group::Text]).take(60))
+        .chain(short(&[Group::Repeated, Group::Asked, Group::Ends]).step_by(5))
     {
         if case.cuts.as_deref() == Some(b"1\n") {
             case.cuts = Some(b"7\n0\n1\n".to_vec());
@@ -174,7 +177,12 @@ fn calls_agree_on_short_streams() {
 /// The count that a feed takes, found by trying every beginning of the piece.
 #[test]
 fn a_feed_takes_the_shortest_beginning_that_gains_an_event() {
-    let built = example::short_plan().build();
+    assert_eq!(check_counts(&example::short_plan().build()), Word::Closed { total: 2 });
+    assert_eq!(check_counts(&example::plan().build()), Word::Complete { total: 12 });
+}
+
+/// All answers are yes. Gives the last word.
+fn check_counts(built: &Built) -> Word {
     let stream = built.bytes();
     let ring = records(&built.ring);
     let mut calls = Calls::new();
@@ -187,16 +195,14 @@ fn a_feed_takes_the_shortest_beginning_that_gains_an_event() {
         let outcome = calls.feed(Holds::ENOUGH, &ring, &built.uri, &stream[done..]);
         assert_eq!(Some(done + outcome.taken), shortest);
         done += outcome.taken;
-        match outcome.word {
-            Word::Question(_) => {
-                calls.answer(Holds::ENOUGH, true);
-                answers.push(true);
-            }
-            Word::Closed { total } => {
-                assert_eq!((total, done), (2, stream.len()));
-                return;
-            }
-            other => panic!("{other:?}"),
+        let word = match outcome.word {
+            Word::Question(_) => calls.answer(Holds::ENOUGH, true).word,
+            other => other,
+        };
+        answers.push(true);
+        if !matches!(word, Word::HeadAccepted { .. } | Word::Block { .. }) {
+            assert_eq!(done, stream.len());
+            return word;
         }
     }
 }
@@ -213,22 +219,26 @@ fn the_question_names_the_first_record_that_fits() {
     let other = RingRecord { key: [3; 32], first: 0, last: u64::MAX };
     plan.ring = vec![own(0, ts - 1), own(ts + 1, u64::MAX), other, own(ts, ts), own(0, u64::MAX)];
     let built = plan.build();
-    let reading = plain::read(&built.bytes(), &records(&built.ring), &built.uri, &[true; 4], true);
+    let reading = plain::read(&built.bytes(), &records(&built.ring), &built.uri, &[true; 5], true);
     for placed in &reading.events {
         if let Event::Question(question) = &placed.event {
             assert_eq!(question.record, 3);
             assert!(sodium::verify(&plan.signer.public, &question.message, &question.signature));
         }
     }
-    assert_eq!(reading.events.len(), 9);
+    assert_eq!(reading.events.len(), 10);
 }
 
 #[test]
-fn the_two_hashes_agree() {
+fn the_hashes_agree() {
     let mut rng = Rng::new(3);
     for length in (0..300).chain([1000, 65_536, 65_600]) {
         let bytes = rng.bytes(length);
-        assert_eq!(second::sha512::sha512(&[&bytes]), sodium::sha512(&bytes), "{length} bytes");
+        assert_eq!(second::sha512::sha512([&bytes[..]]), sodium::sha512(&bytes), "{length} bytes");
+        let mut hash = sodium::Sha256::default();
+        hash.update(&bytes);
+        let piece = rng.between(1, 200);
+        assert_eq!(second::sha256::sha256(bytes.chunks(piece)), hash.finish(), "{length} bytes in pieces of {piece}");
     }
 }
 
@@ -386,6 +396,63 @@ fn longer_heads_and_trailers_of_all_kinds() {
         ("trailers", 30),
     ] {
         assert!(counts[kind] >= least, "{kind}: {}", counts[kind]);
+    }
+}
+
+/// What the group of ends has, and that random streams come to an end's check too.
+#[test]
+fn ends_of_all_kinds() {
+    let mut counts: BTreeMap<(&str, String), usize> = BTreeMap::new();
+    let random = Sequence::new(5, &[Group::Mixed]).take(3000).map(|case| ("random", case));
+    for (group, case) in Sequence::new(5, &[Group::Ends]).map(|case| ("ends", case)).chain(random) {
+        let Expected::Exactly { lines, .. } = &case.expected else { continue };
+        let words: Vec<&str> = lines.last().expect("an event").split(' ').collect();
+        let kind = if words[0] == "refused" { words[1] } else { words[0] };
+        *counts.entry((group, kind.to_string())).or_default() += 1;
+    }
+    println!("ends: {counts:?}");
+    for (group, kind, least) in [
+        ("ends", "complete", 350),
+        ("ends", "closed", 20),
+        ("ends", "question", 15),
+        ("ends", "10", 40),
+        ("ends", "11", 100),
+        ("ends", "12", 25),
+        ("ends", "13", 450),
+        ("ends", "14", 40),
+        ("ends", "15", 25),
+        ("ends", "3", 10),
+        ("ends", "6", 50),
+        ("random", "complete", 150),
+        ("random", "13", 40),
+        ("random", "14", 3),
+        ("random", "15", 3),
+    ] {
+        let found = counts.get(&(group, kind.to_string())).copied().unwrap_or(0);
+        assert!(found >= least, "{group}, {kind}: {found}");
+    }
+}
+
+/// What is handed out of a head that tells the end: the signed fields, and none of the three unless the head lists it.
+#[test]
+fn what_is_handed_out_of_a_complete_show() {
+    let mut rng = Rng::new(17);
+    for _ in 0..100 {
+        let plan = ends::plan(&mut rng);
+        let built = plan.build();
+        let (mut calls, stream) = (Calls::new(), built.bytes());
+        loop {
+            calls.feed(Holds::ENOUGH, &records(&built.ring), &built.uri, &stream[calls.bytes().len()..]);
+            if let Word::Complete { total } = calls.answer(Holds::ENOUGH, true).word {
+                assert_eq!(total, built.body.len() as u64);
+                break;
+            }
+        }
+        let hold = Holds::ENOUGH.head;
+        for name in end::NAMES {
+            assert_eq!((calls.value(hold, name.as_bytes()), calls.value_count(hold, name.as_bytes())), (&b""[..], 0));
+        }
+        assert_eq!(calls.value(hold, b"X-Ouinet-URI"), plan.uri());
     }
 }
 

@@ -1,24 +1,28 @@
 -- A message shorter than the block's other half goes into one piece with what stands before it; of a longer one the first half block does.
 use mathlib.Core.Path.{_≡_, ap, _∙_}
 use mathlib.Core.List.{List}
-use Prim.Native.Nat.{ℕ, _+_, _-_}
-use native.Mathlib.Nat.{sub-zero}
+use Prim.Native.Nat.{ℕ, _+_, _-_, _*_}
+use native.Mathlib.Nat.{sub-zero, zero-add}
 use native.Mathlib.Omega.{arith}
 use borrow.Author.Needs.{needs}
 use denote.Ref.{now}
 use lib.ListN.{length, take, drop, length-drop}
 use lib.Seq.{take-all}
-use Rattle.hash.specs.Sha512.{initialWords, roundWords}
-use Rattle.hash.specs.Parts.{finished}
+use Rattle.hash.specs.Sha2.{finished}
+use Rattle.hash.specs.Sha512.{variant, initialWords, roundWords}
 use Rattle.hash.proofs.LastLaws.{after-short, after-long}
 use Rattle.hash.proofs.sha512_after.Statement.{statement}
 use Rattle.hash.proofs.sha512_after.Tie as tie
 
-whole : (u s : List ℕ) (n : ℕ) → finished 0 (take (n - 0) u) s ≡ finished 0 (take n u) s
-whole u s n = ap (λ (i : ℕ). finished 0 (take i u) s) (sub-zero n)
+-- the whole of n bytes, and a message from its first half block on
+abbrev done : ℕ → List ℕ → List ℕ → List ℕ
+done n l s = finished variant (n * 128 + length l) l s
 
-rest : (m s : List ℕ) → finished 1 (take (length m - 64) (drop 64 m)) s ≡ finished 1 (drop 64 m) s
-rest m s = ap (λ (l : List ℕ). finished 1 l s) (take-all (length m - 64) (drop 64 m) (omega (arith, length-drop 64 m)))
+whole : (u s : List ℕ) (n : ℕ) → done 0 (take (n - 0) u) s ≡ finished variant (length (take n u)) (take n u) s
+whole u s n = ap (λ (i : ℕ). done 0 (take i u) s) (sub-zero n) ∙ ap (λ (i : ℕ). finished variant i (take n u) s) (zero-add (length (take n u)))
+
+rest : (m s : List ℕ) → done 1 (take (length m - 64) (drop 64 m)) s ≡ done 1 (drop 64 m) s
+rest m s = ap (λ (l : List ℕ). done 1 l s) (take-all (length m - 64) (drop 64 m) (omega (arith, length-drop 64 m)))
 
 slice-aggregate-copy : tie.Need-slice-aggregate-copy
 slice-aggregate-copy c = search needs
@@ -60,7 +64,7 @@ returns c =
     let d = now (s .args .message) in
     let l : length a ≡ 64 = search needs in
     c .finish .ensures ∙ whole (c2 .copy2 .last .0) initialWords (64 + length d)
-    ∙ after-short a d (c1 .copy .last .0) (c2 .copy2 .last .0) l (c1 .copy .ensures) (c2 .copy2 .ensures)
+    ∙ after-short a d (c1 .copy .last .0) (c2 .copy2 .last .0) l (search needs) (c1 .copy .ensures) (c2 .copy2 .ensures)
 
 slice-aggregate-copy-4 : tie.Need-slice-aggregate-copy-4
 slice-aggregate-copy-4 c = search needs

@@ -1,25 +1,17 @@
 -- Each return by the tests that led to it.
 use mathlib.Core.Path.{_≡_, refl, ap, _∙_}
 use mathlib.Core.Bool.{true, false}
-use mathlib.Core.List.{List, _++_, append-nil}
-use Prim.Native.Nat.{ℕ, _≤_}
+use mathlib.Core.List.{List, _++_}
+use Prim.Native.Nat.{ℕ}
 use borrow.Author.Needs.{needs}
 use borrow.Author.Tests.{eq-eqb, ne-eqb}
 use denote.Ref.{now}
-use native.Mathlib.Omega.{arith}
-use lib.ListN.{length, drop-of-length-le}
+use lib.ListN.{length}
 use Rattle.hash.specs.Sha512.{sha512}
-use Rattle.places.specs.Writing.{Placed, placed, wrote}
-use Rattle.places.proofs.WritingLaws.{wrote-front}
 use Rattle.hash_export.specs.Export.{made, answered}
+use Rattle.hash_export.proofs.FillLaws.{fills}
 use Rattle.hash_export.proofs.thawrushes_sha512_after.Statement.{statement}
 use Rattle.hash_export.proofs.thawrushes_sha512_after.Tie as tie
-
--- a text as long as the buffer takes all of it
-fills : (d l b : List ℕ) (n : ℕ) → length l ≡ 64 → length d ≡ 64 → placed n b ≡ wrote d 0 l → b ≡ l
-fills d l b n h k e =
-    let j : length d ≤ length l = omega arith in
-    ap (λ (p : Placed). p .bytes) (e ∙ wrote-front d l (omega arith)) ∙ rw (drop-of-length-le d) (append-nil l)
 
 module _ (b m o : List ℕ) where
   no-start : (length b ≡ 64 → ⊥) → made false o ≡ answered b m o
@@ -71,7 +63,7 @@ returns-3 c =
     let b = now (r .before) in
     let m = now (r .message) in
     whole b m (now (r .out)) (c3 .put2 .last .0) (e .if1 .left) (f .if2 .left)
-    (fills _ _ _ _ (search needs) (f .if2 .left) (c3 .put2 .ensures) ∙ c2 .sha512-after .ensures ∙ ap (λ (l : List ℕ). sha512 (l ++ m)) (fills _ _ _ _ (e .if1 .left) refl (c1 .put .ensures)))
+    (fills 64 _ _ _ _ (search needs) (f .if2 .left) (c3 .put2 .ensures) ∙ c2 .sha512-after .ensures ∙ ap (λ (l : List ℕ). sha512 (l ++ m)) (fills 64 _ _ _ _ (e .if1 .left) refl (c1 .put .ensures)))
 
 pub thawrushes-sha512-after-spec : {M : Type 1} → statement M
 thawrushes-sha512-after-spec =

@@ -26,6 +26,12 @@ enum-told-4 c = search needs
 with-closed-requires : tie.Need-with-closed-requires
 with-closed-requires c κs = search needs
 
+enum-told-5 : tie.Need-enum-told-5
+enum-told-5 c = search needs
+
+with-closed-requires-2 : tie.Need-with-closed-requires-2
+with-closed-requires-2 c κs = search needs
+
 enum-known-word-2 : tie.Need-enum-known-word-2
 enum-known-word-2 c = search needs
 
@@ -54,7 +60,11 @@ returns-5 c = c .with-closed .ensures ∙ sym (ap (talliedAfter _) (c .before .e
 
 returns-6 : tie.Need-returns-6
 unfolding talliedAfter
-returns-6 c = c .with-refused .ensures ∙ sym (ap (talliedAfter _) (c .before .before .word2 .given .1))
+returns-6 c = c .with-closed2 .ensures ∙ sym (ap (talliedAfter _) (c .before .enum-told5 .given .1))
+
+returns-7 : tie.Need-returns-7
+unfolding talliedAfter
+returns-7 c = c .with-refused .ensures ∙ sym (ap (talliedAfter _) (c .before .before .word2 .given .1))
 
 pub counted-spec : {M : Type 1} → statement M
 counted-spec =
@@ -67,6 +77,8 @@ counted-spec =
     with-block-requires
     enum-told-4
     with-closed-requires
+    enum-told-5
+    with-closed-requires-2
     enum-known-word-2
     with-refused-requires
     returns
@@ -74,4 +86,5 @@ counted-spec =
     returns-3
     returns-4
     returns-5
-    returns-6)
+    returns-6
+    returns-7)

@@ -85,6 +85,65 @@ pub const SIGNATURE_EDITS: [(&str, TextEdit, usize); 13] = [
     ("padding inside and none at the end", |text| [b"AA==", &text[4..86], b"AA"].concat(), 2),
 ];
 
+/// Texts of a signature field that are replaced, so that its key or its algorithm is written wrongly.
+pub const KEY_AND_ALGORITHM_EDITS: [(&str, &str); 33] = [
+    ("keyId", "keyid"),
+    ("keyId", "KeyId"),
+    ("keyId=", "keyId ="),
+    ("keyId=", "keyId= "),
+    ("keyId=", ""),
+    ("\"ed25519=", "\"Ed25519="),
+    ("\"ed25519=", "\"ed25519:"),
+    ("\"ed25519=", "\" ed25519="),
+    ("\"ed25519=", "\"rsa="),
+    ("\"ed25519=", "\""),
+    ("\"ed25519=", "ed25519="),
+    ("=\",", "= \","),
+    ("=\",", "\","),
+    ("=\",", "==\","),
+    ("=\",", "A\","),
+    ("=\",", "=,"),
+    ("=\",", "=\" ,"),
+    ("=\",", "=\""),
+    ("=\",", "=\",,"),
+    ("algorithm", "Algorithm"),
+    ("algorithm=", "algorithm ="),
+    ("algorithm=", "algorithm= "),
+    ("hs2019", "hs2020"),
+    ("hs2019", "HS2019"),
+    ("hs2019", " hs2019"),
+    ("hs2019", "hs2019 "),
+    ("hs2019", ""),
+    ("\"hs2019\"", "hs2019"),
+    ("\"hs2019\"", "\"hs2019\" "),
+    ("\"hs2019\",", "\"hs2019\";"),
+    ("\"hs2019\",", "\"hs2019\",,"),
+    ("\"hs2019\",", "\"hs2019\",x=1,"),
+    ("\"hs2019\",", "\"hs2019\""),
+];
+
+/// The same for the other parameters of `X-Ouinet-Sig0`, and of Sig1, which is written alike.
+pub const SIG_EDITS: [(&str, &str); 18] = [
+    ("created=", "Created="),
+    ("created=", "created ="),
+    ("created=", "expires=1,created="),
+    ("headers=", "Headers="),
+    ("headers=", "headers ="),
+    ("headers=\"", "headers= \""),
+    ("headers=\"", "headers="),
+    ("signature=", "Signature="),
+    ("signature=", "sig="),
+    ("signature=\"", "signature= \""),
+    ("signature=\"", "signature=\" "),
+    ("signature=\"", "signature="),
+    ("==\"", "==\"\""),
+    ("==\"", "== \""),
+    ("==\"", "=="),
+    ("==\"", "\""),
+    ("==\"", "=\""),
+    ("==\"", "===\""),
+];
+
 /// The last letter before the padding with one of its spare bits set.
 pub fn spare_bit(text: &[u8], bit: usize) -> Vec<u8> {
     let letters = b"ABCDEFGHIJKLMNOPQRSTUVWXYZabcdefghijklmnopqrstuvwxyz0123456789+/";

@@ -12,45 +12,7 @@ impl Table {
         for name in [BSIGS, SIG0] {
             self.head(4, format!("no {name}"), move |head| head.drop_field(name));
             self.values(4, name, &["", ",", "keyId"]);
-            self.replacements(
-                4,
-                name,
-                &[
-                    ("keyId", "keyid"),
-                    ("keyId", "KeyId"),
-                    ("keyId=", "keyId ="),
-                    ("keyId=", "keyId= "),
-                    ("keyId=", ""),
-                    ("\"ed25519=", "\"Ed25519="),
-                    ("\"ed25519=", "\"ed25519:"),
-                    ("\"ed25519=", "\" ed25519="),
-                    ("\"ed25519=", "\"rsa="),
-                    ("\"ed25519=", "\""),
-                    ("\"ed25519=", "ed25519="),
-                    ("=\",", "= \","),
-                    ("=\",", "\","),
-                    ("=\",", "==\","),
-                    ("=\",", "A\","),
-                    ("=\",", "=,"),
-                    ("=\",", "=\" ,"),
-                    ("=\",", "=\""),
-                    ("=\",", "=\",,"),
-                    ("algorithm", "Algorithm"),
-                    ("algorithm=", "algorithm ="),
-                    ("algorithm=", "algorithm= "),
-                    ("hs2019", "hs2020"),
-                    ("hs2019", "HS2019"),
-                    ("hs2019", " hs2019"),
-                    ("hs2019", "hs2019 "),
-                    ("hs2019", ""),
-                    ("\"hs2019\"", "hs2019"),
-                    ("\"hs2019\"", "\"hs2019\" "),
-                    ("\"hs2019\",", "\"hs2019\";"),
-                    ("\"hs2019\",", "\"hs2019\",,"),
-                    ("\"hs2019\",", "\"hs2019\",x=1,"),
-                    ("\"hs2019\",", "\"hs2019\""),
-                ],
-            );
+            self.replacements(4, name, &KEY_AND_ALGORITHM_EDITS);
             self.head(4, format!("{name} without its algorithm"), move |head| {
                 let value = &head.field(name).value;
                 let start = find(value, b"algorithm=");
@@ -133,30 +95,7 @@ impl Table {
                 *value = [&value[..start], created.as_bytes(), &value[end..]].concat();
             });
         }
-        self.replacements(
-            4,
-            SIG0,
-            &[
-                ("created=", "Created="),
-                ("created=", "created ="),
-                ("created=", "expires=1,created="),
-                ("headers=", "Headers="),
-                ("headers=", "headers ="),
-                ("headers=\"", "headers= \""),
-                ("headers=\"", "headers="),
-                ("signature=", "Signature="),
-                ("signature=", "sig="),
-                ("signature=\"", "signature= \""),
-                ("signature=\"", "signature=\" "),
-                ("signature=\"", "signature="),
-                ("==\"", "==\"\""),
-                ("==\"", "== \""),
-                ("==\"", "=="),
-                ("==\"", "\""),
-                ("==\"", "=\""),
-                ("==\"", "===\""),
-            ],
-        );
+        self.replacements(4, SIG0, &SIG_EDITS);
         for (name, next) in [("created", "headers"), ("headers", "signature")] {
             self.head(4, format!("no {name}"), move |head| {
                 let value = &mut head.field(SIG0).value;

@@ -1,7 +1,7 @@
 -- The words made so far stand in front of those of the entry.
 use mathlib.Core.Path.{_≡_, sym}
-use mathlib.Core.List.{List, _++_}
-use Prim.Native.Nat.{ℕ, _+_, _-_, _≤_}
+use mathlib.Core.List.{_++_}
+use Prim.Native.Nat.{_+_, _-_, _≤_}
 use native.Mathlib.Omega.{arith}
 use denote.Ref.{now}
 use lib.ListN.{length, take, drop, take-append-drop}
@@ -17,9 +17,6 @@ Inv-loop w₀ t₀ w t = (w ≡ schedule variant t (take 16 w₀) ++ drop (t + 1
 
 abbrev μ-loop : tie.MeasureT-loop
 μ-loop w₀ t₀ w t = 64 - t
-
-last : (d w : List ℕ) (t : ℕ) → t ≡ 64 → length d ≡ 80 → w ≡ schedule variant t (take 16 d) ++ drop (t + 16) d → w ≡ schedule variant 64 (take 16 d)
-last d w t e h f = rw e at (schedule-end variant (take 16 d) d w t (omega arith) f)
 
 loop-holds : tie.Need-loop-holds Inv-loop μ-loop
 unfolding schedule
@@ -55,7 +52,7 @@ loop-again c =
 returns : tie.Need-returns Inv-loop μ-loop
 returns c =
     let a = c .before in
-    last (now (a .before .args .w)) (a .loop .w) (a .loop .t) (omega arith) (a .loop .inv .2) (a .loop .inv .0)
+    schedule-end variant _ (now (a .before .args .w)) (a .loop .w) (a .loop .t) 64 (omega arith) (a .loop .inv .2) (a .loop .inv .0)
 
 pub extend-spec : {M : Type 1} → statement M
 extend-spec =

@@ -1,14 +1,13 @@
 -- The words read so far stand in front of those of the entry.
 use mathlib.Core.Path.{_≡_, refl}
-use mathlib.Core.List.{List, _++_}
-use Prim.Native.Nat.{ℕ, _+_, _-_, _*_, _≤_}
+use mathlib.Core.List.{_++_}
+use Prim.Native.Nat.{_+_, _-_, _≤_}
 use native.Mathlib.Omega.{arith}
 use denote.Ref.{now}
-use lib.ListN.{length, take, drop}
-use lib.Seq.{drop-drop}
-use Rattle.hash.specs.Sha2.{number, parsed}
+use lib.ListN.{length, drop}
+use Rattle.hash.specs.Sha2.{parsed}
 use Rattle.hash.specs.Sha512.{variant}
-use Rattle.hash.proofs.BlockLaws.{parse-turn}
+use Rattle.hash.proofs.BlockLaws.{parse-turn, parse-place, parse-end}
 use Rattle.hash.proofs.block.load.Statement.{statement}
 use Rattle.hash.proofs.block.load.Tie as tie
 
@@ -17,13 +16,6 @@ Inv-loop w₀ p at i₀ w i = (w ≡ parsed variant i (drop at p) ++ drop i w₀
 
 abbrev μ-loop : tie.MeasureT-loop
 μ-loop w₀ p at i₀ w i = 16 - i
-
--- a word's place, in the block and in the whole
-place : (p : List ℕ) (at i x : ℕ) → x ≡ number 0 (take 8 (drop (at + i * 8) p)) → x ≡ number 0 (take 8 (drop (i * 8) (drop at p)))
-place p at i x e = rw (drop-drop (i * 8) at p) e
-
-last : (p d w : List ℕ) (at i : ℕ) → i ≡ 16 → w ≡ parsed variant i (drop at p) ++ drop i d → w ≡ parsed variant 16 (drop at p) ++ drop 16 d
-last p d w at i e f = rw e at f
 
 loop-holds : tie.Need-loop-holds Inv-loop μ-loop
 unfolding parsed
@@ -55,7 +47,7 @@ loop-again c =
     let a = c .before .before in
     let r = a .before .before .args in (
       parse-turn variant (drop (r .at) (now (r .p))) _ (a .loop .w) (a .loop .i) (c .word-at .result) (a .loop .inv .0) (omega arith)
-          (place (now (r .p)) (r .at) (a .loop .i) (c .word-at .result) (c .word-at .ensures)),
+          (parse-place variant (now (r .p)) (r .at) (a .loop .i) (c .word-at .result) (c .word-at .ensures)),
       omega arith,
       a .loop .inv .2,
       a .loop .inv .3,
@@ -65,7 +57,7 @@ returns : tie.Need-returns Inv-loop μ-loop
 returns c =
     let a = c .before in
     let r = a .before .before .args in
-    last (now (r .p)) (now (r .w)) (a .loop .w) (r .at) (a .loop .i) (omega arith) (a .loop .inv .0)
+    parse-end variant (drop (r .at) (now (r .p))) (now (r .w)) (a .loop .w) (a .loop .i) (omega arith) (a .loop .inv .0)
 
 pub load-spec : {M : Type 1} → statement M
 load-spec =

@@ -1,18 +1,10 @@
 -- The round by the table's word, which is the standard's.
-use mathlib.Core.Path.{_≡_}
-use mathlib.Core.List.{List}
-use Prim.Native.Nat.{ℕ}
 use borrow.Author.Needs.{needs}
 use denote.Ref.{now}
-use lib.ListN.{getD}
-use Rattle.hash.specs.Sha2.{round}
-use Rattle.hash.specs.Sha512.{variant, roundWords}
-use Rattle.hash.specs.Parts.{roundAt}
+use Rattle.hash.specs.Sha512.{variant}
+use Rattle.hash.proofs.BlockLaws.{round-by}
 use Rattle.hash.proofs.block.round_at.Statement.{statement}
 use Rattle.hash.proofs.block.round_at.Tie as tie
-
-same : (k w s r : List ℕ) (i : ℕ) → k ≡ roundWords → r ≡ round variant (getD k i 0) (getD w i 0) s → r ≡ roundAt i w s
-same k w s r i e f = rw e at f
 
 mul-step : tie.Need-mul-step
 mul-step c = search needs
@@ -33,7 +25,7 @@ returns : tie.Need-returns
 returns c =
     let a = c .before .before .before in
     let r = a .args in
-    same (now (r .words)) (now (r .w)) (r .s) (c .step .result) (r .i) (a .pre .0) (c .step .ensures)
+    round-by variant (now (r .words)) (now (r .w)) (r .s) (c .step .result) (r .i) (a .pre .0) (c .step .ensures)
 
 pub round-at-spec : {M : Type 1} → statement M
 round-at-spec =

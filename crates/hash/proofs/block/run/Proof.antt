@@ -1,14 +1,11 @@
 -- The working variables are those after as many rounds as are done.
-use mathlib.Core.Path.{_≡_, refl, ap, _∙_}
-use mathlib.Core.List.{List}
-use Prim.Native.Nat.{ℕ, _+_, _-_, _%_, _≤_}
-use native.Mathlib.Nat.{add-assoc}
+use mathlib.Core.Path.{_≡_, refl}
+use Prim.Native.Nat.{_-_, _%_, _≤_}
 use native.Mathlib.Omega.{arith}
 use denote.Ref.{now}
 use Rattle.hash.specs.Sha2.{rounds}
 use Rattle.hash.specs.Sha512.{variant, roundWords}
-use Rattle.hash.specs.Parts.{roundAt}
-use Rattle.hash.proofs.BlockLaws.{rounds-turn}
+use Rattle.hash.proofs.BlockLaws.{four-rounds, rounds-end}
 use Rattle.hash.proofs.block.run.Statement.{statement}
 use Rattle.hash.proofs.block.run.Tie as tie
 
@@ -17,17 +14,6 @@ Inv-loop words w s₀ i₀ s i = (s ≡ rounds variant i w s₀) × (i ≤ 80) �
 
 abbrev μ-loop : tie.MeasureT-loop
 μ-loop words w s₀ i₀ s i = 80 - i
-
--- a round more, after k rounds past i
-more : (w s x y : List ℕ) (i k : ℕ) → x ≡ rounds variant (i + k) w s → y ≡ roundAt (i + k) w x → y ≡ rounds variant (i + (k + 1)) w s
-more w s x y i k e f = rounds-turn variant w s x y (i + k) e f ∙ ap (λ (n : ℕ). rounds variant n w s) (add-assoc i k 1)
-
-four : (w s x x1 x2 x3 x4 : List ℕ) (i : ℕ) → x ≡ rounds variant i w s → x1 ≡ roundAt i w x → x2 ≡ roundAt (i + 1) w x1 → x3 ≡ roundAt (i + 2) w x2 → x4 ≡ roundAt (i + 3) w x3 → x4 ≡ rounds variant (i + 4) w s
-four w s x x1 x2 x3 x4 i e f1 f2 f3 f4 =
-    more w s x3 x4 i 3 (more w s x2 x3 i 2 (more w s x1 x2 i 1 (rounds-turn variant w s x x1 i e f1) f2) f3) f4
-
-last : (w s x : List ℕ) (i : ℕ) → i ≡ 80 → x ≡ rounds variant i w s → x ≡ rounds variant 80 w s
-last w s x i e f = rw e at f
 
 loop-holds : tie.Need-loop-holds Inv-loop μ-loop
 unfolding rounds
@@ -67,7 +53,7 @@ loop-again c =
     let c1 = c2 .before in
     let a = c1 .before .before in
     let r = a .before .args in (
-      four (now (r .w)) (r .before) (a .loop .s) (c1 .round-at .result) (c2 .round-at2 .result) (c3 .round-at3 .result) (c .round-at4 .result) (a .loop .i)
+      four-rounds variant (now (r .w)) (r .before) (a .loop .s) (c1 .round-at .result) (c2 .round-at2 .result) (c3 .round-at3 .result) (c .round-at4 .result) (a .loop .i)
           (a .loop .inv .0) (c1 .round-at .ensures) (c2 .round-at2 .ensures) (c3 .round-at3 .ensures) (c .round-at4 .ensures),
       omega arith,
       omega arith,
@@ -77,7 +63,7 @@ loop-again c =
 returns : tie.Need-returns Inv-loop μ-loop
 returns c =
     let a = c .before in
-    last _ _ (a .loop .s) (a .loop .i) (omega arith) (a .loop .inv .0)
+    rounds-end variant _ _ (a .loop .s) (a .loop .i) 80 (omega arith) (a .loop .inv .0)
 
 pub run-spec : {M : Type 1} → statement M
 run-spec =

@@ -1,24 +1,9 @@
 -- One round: each sum and function by what its call ensures.
-use mathlib.Core.Path.{_≡_}
-use mathlib.Core.List.{List, [], _∷_}
-use Prim.Native.Nat.{ℕ}
 use borrow.Author.Needs.{needs}
-use lib.ListN.{getD}
-use Rattle.hash.specs.Sha2.{plus, ch, maj, Σ, round}
 use Rattle.hash.specs.Sha512.{variant}
+use Rattle.hash.proofs.BlockLaws.{round-is}
 use Rattle.hash.proofs.block.step.Statement.{statement}
 use Rattle.hash.proofs.block.step.Tie as tie
-
-joined :
-    (k w : ℕ) (s : List ℕ) (x1 t1a x2 t1b t1c t1 x3 x4 t2 a e : ℕ)
-    → x1 ≡ Σ variant (variant .big1) (getD s 4 0) → t1a ≡ plus variant (getD s 7 0) x1
-    → x2 ≡ ch variant (getD s 4 0) (getD s 5 0) (getD s 6 0) → t1b ≡ plus variant t1a x2
-    → t1c ≡ plus variant t1b k → t1 ≡ plus variant t1c w
-    → x3 ≡ Σ variant (variant .big0) (getD s 0 0) → x4 ≡ maj (getD s 0 0) (getD s 1 0) (getD s 2 0) → t2 ≡ plus variant x3 x4
-    → a ≡ plus variant t1 t2 → e ≡ plus variant (getD s 3 0) t1
-    → _≡_ {A = List ℕ} (a ∷ getD s 0 0 ∷ getD s 1 0 ∷ getD s 2 0 ∷ e ∷ getD s 4 0 ∷ getD s 5 0 ∷ getD s 6 0 ∷ []) (round variant k w s)
-unfolding round
-joined k w s x1 t1a x2 t1b t1c t1 x3 x4 t2 a e p1 q1 p2 q2 q3 q4 p3 p4 q5 q6 q7 = rw (q6, q7, q4, q3, q2, q1, p1, p2, q5, p3, p4)
 
 array-read-wrapping-add-u64 : tie.Need-array-read-wrapping-add-u64
 array-read-wrapping-add-u64 c = search needs
@@ -113,7 +98,7 @@ returns c =
     let c8 = c7 .before in
     let c9 = c8 .before in
     let c10 = c9 .before in
-    joined _ _ _ _ _ _ _ _ _ _ _ _ _ _
+    round-is variant _ _ _ _ _ _ _ _ _ _ _ _ _ _
     (c10 .big1 .ensures) (c9 .wrapping-add-u64 .ensures) (c8 .choose .ensures) (c7 .wrapping-add-u642 .ensures)
     (c6 .wrapping-add-u643 .ensures) (c5 .wrapping-add-u644 .ensures) (c4 .big0 .ensures) (c3 .majority .ensures)
     (c2 .wrapping-add-u645 .ensures) (c1 .wrapping-add-u646 .ensures) (c .wrapping-add-u647 .ensures)

@@ -1,20 +1,9 @@
 -- The eight sums by what each call ensures.
-use mathlib.Core.Path.{_≡_}
-use mathlib.Core.List.{List, [], _∷_}
-use Prim.Native.Nat.{ℕ}
 use borrow.Author.Needs.{needs}
-use Rattle.hash.specs.Sha2.{sum, sums}
 use Rattle.hash.specs.Sha512.{variant}
+use Rattle.hash.proofs.BlockLaws.{sums-are}
 use Rattle.hash.proofs.block.sum.Statement.{statement}
 use Rattle.hash.proofs.block.sum.Tie as tie
-
-joined :
-    (s t : List ℕ) (x0 x1 x2 x3 x4 x5 x6 x7 : ℕ)
-    → x0 ≡ sum variant s t 0 → x1 ≡ sum variant s t 1 → x2 ≡ sum variant s t 2 → x3 ≡ sum variant s t 3
-    → x4 ≡ sum variant s t 4 → x5 ≡ sum variant s t 5 → x6 ≡ sum variant s t 6 → x7 ≡ sum variant s t 7
-    → _≡_ {A = List ℕ} (x0 ∷ x1 ∷ x2 ∷ x3 ∷ x4 ∷ x5 ∷ x6 ∷ x7 ∷ []) (sums variant s t)
-unfolding sums
-joined s t x0 x1 x2 x3 x4 x5 x6 x7 e0 e1 e2 e3 e4 e5 e6 e7 = rw (e0, e1, e2, e3, e4, e5, e6, e7)
 
 array-read-wrapping-add-u64 : tie.Need-array-read-wrapping-add-u64
 array-read-wrapping-add-u64 c = search needs
@@ -97,7 +86,7 @@ returns c =
     let c2 = c3 .before in
     let c1 = c2 .before in
     let c0 = c1 .before in
-    joined _ _ _ _ _ _ _ _ _ _
+    sums-are variant _ _ _ _ _ _ _ _ _ _
     (c0 .wrapping-add-u64 .ensures) (c1 .wrapping-add-u642 .ensures) (c2 .wrapping-add-u643 .ensures) (c3 .wrapping-add-u644 .ensures)
     (c4 .wrapping-add-u645 .ensures) (c5 .wrapping-add-u646 .ensures) (c6 .wrapping-add-u647 .ensures) (c .wrapping-add-u648 .ensures)
 

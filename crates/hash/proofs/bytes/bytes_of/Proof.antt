@@ -1,7 +1,7 @@
 -- The bytes of the words so far stand in front of those of the fresh array.
-use mathlib.Core.Path.{_≡_, refl, sym, _∙_}
-use mathlib.Core.List.{List, _++_}
-use Prim.Native.Nat.{ℕ, _+_, _-_, _*_, _≤_}
+use mathlib.Core.Path.{_≡_, refl, _∙_}
+use mathlib.Core.List.{_++_}
+use Prim.Native.Nat.{_-_, _*_, _≤_}
 use native.Mathlib.Omega.{arith}
 use borrow.Author.Needs.{needs}
 use lib.ListN.{length, take, drop}
@@ -16,9 +16,6 @@ Inv-loop words out₀ i₀ out i = (out ≡ unparsed variant (take i words) ++ d
 
 abbrev μ-loop : tie.MeasureT-loop
 μ-loop words out₀ i₀ out i = 8 - i
-
-last : (s d o : List ℕ) (i : ℕ) → i ≡ 8 → length s ≡ 8 → length d ≡ 64 → o ≡ unparsed variant (take i s) ++ drop (i * 8) d → o ≡ unparsed variant s
-last s d o i e h k f = unparse-end variant s d o i (h ∙ sym e) (omega arith) f
 
 loop-holds : tie.Need-loop-holds Inv-loop μ-loop
 unfolding unparsed
@@ -59,7 +56,7 @@ loop-again c =
 returns : tie.Need-returns Inv-loop μ-loop
 returns c =
     let a = c .before in
-    last (a .before .args .t1) _ (a .loop .out) (a .loop .i) (omega arith) (a .loop .inv .2) (a .loop .inv .3) (a .loop .inv .0)
+    unparse-end variant (a .before .args .t1) _ (a .loop .out) (a .loop .i) (omega arith) (omega arith) (a .loop .inv .0)
 
 pub bytes-of-spec : {M : Type 1} → statement M
 bytes-of-spec =

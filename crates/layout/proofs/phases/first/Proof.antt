@@ -41,6 +41,12 @@ enum-known-p-9 c = search needs
 enum-known-p-10 : tie.Need-enum-known-p-10
 enum-known-p-10 c = search needs
 
+enum-known-p-11 : tie.Need-enum-known-p-11
+enum-known-p-11 c = search needs
+
+enum-known-p-12 : tie.Need-enum-known-p-12
+enum-known-p-12 c = search needs
+
 cast-result : tie.Need-cast-result
 cast-result c = search needs
 
@@ -74,6 +80,12 @@ returns-9 c = (ap firstOf (sym (c .before .p9 .given .1)), small _ _ (c .before 
 returns-10 : tie.Need-returns-10
 returns-10 c = (ap firstOf (sym (c .before .p10 .given .1)), small _ _ (c .before .p10 .given .1) (omega arith))
 
+returns-11 : tie.Need-returns-11
+returns-11 c = (ap firstOf (sym (c .before .p11 .given .1)), small _ _ (c .before .p11 .given .1) (omega arith))
+
+returns-12 : tie.Need-returns-12
+returns-12 c = (ap firstOf (sym (c .before .p12 .given .1)), small _ _ (c .before .p12 .given .1) (omega arith))
+
 pub first-spec : {M : Type 1} → statement M
 first-spec =
     tie.close
@@ -88,6 +100,8 @@ first-spec =
     enum-known-p-8
     enum-known-p-9
     enum-known-p-10
+    enum-known-p-11
+    enum-known-p-12
     cast-result
     returns
     returns-2
@@ -98,4 +112,6 @@ first-spec =
     returns-7
     returns-8
     returns-9
-    returns-10)
+    returns-10
+    returns-11
+    returns-12)

@@ -50,9 +50,30 @@ returns-10 c = rw (c .match .keys10)
 
 returns-11 : tie.Need-returns-11
 unfolding phaseOf
-returns-11 c =
-    rw (ne-eqb _ 0 (c .match .rest .0 .0 .0 .0 .0 .0 .0 .0 .0 .1), ne-eqb _ 1 (c .match .rest .0 .0 .0 .0 .0 .0 .0 .0 .1), ne-eqb _ 2 (c .match .rest .0 .0 .0 .0 .0 .0 .0 .1), ne-eqb _ 3 (c .match .rest .0 .0 .0 .0 .0 .0 .1), ne-eqb _ 4 (c .match .rest .0 .0 .0 .0 .0 .1), ne-eqb _ 5 (c .match .rest .0 .0 .0 .0 .1), ne-eqb _ 6 (c .match .rest .0 .0 .0 .1), ne-eqb _ 7 (c .match .rest .0 .0 .1), ne-eqb _ 8 (c .match .rest .0 .1), ne-eqb _ 9 (c .match .rest .1))
+returns-11 c = rw (c .match .keys11)
+
+returns-12 : tie.Need-returns-12
+unfolding phaseOf
+returns-12 c = rw (c .match .keys12)
+
+returns-13 : tie.Need-returns-13
+unfolding phaseOf
+returns-13 c =
+    rw (
+      ne-eqb _ 0 (c .match .rest .0 .0 .0 .0 .0 .0 .0 .0 .0 .0 .0 .1),
+      ne-eqb _ 1 (c .match .rest .0 .0 .0 .0 .0 .0 .0 .0 .0 .0 .1),
+      ne-eqb _ 2 (c .match .rest .0 .0 .0 .0 .0 .0 .0 .0 .0 .1),
+      ne-eqb _ 3 (c .match .rest .0 .0 .0 .0 .0 .0 .0 .0 .1),
+      ne-eqb _ 4 (c .match .rest .0 .0 .0 .0 .0 .0 .0 .1),
+      ne-eqb _ 5 (c .match .rest .0 .0 .0 .0 .0 .0 .1),
+      ne-eqb _ 6 (c .match .rest .0 .0 .0 .0 .0 .1),
+      ne-eqb _ 7 (c .match .rest .0 .0 .0 .0 .1),
+      ne-eqb _ 8 (c .match .rest .0 .0 .0 .1),
+      ne-eqb _ 9 (c .match .rest .0 .0 .1),
+      ne-eqb _ 10 (c .match .rest .0 .1),
+      ne-eqb _ 11 (c .match .rest .1),
+    )
 
 pub phase-spec : {M : Type 1} → statement M
 phase-spec =
-    tie.close (tie.spec cast-t8 returns returns-2 returns-3 returns-4 returns-5 returns-6 returns-7 returns-8 returns-9 returns-10 returns-11)
+    tie.close (tie.spec cast-t8 returns returns-2 returns-3 returns-4 returns-5 returns-6 returns-7 returns-8 returns-9 returns-10 returns-11 returns-12 returns-13)

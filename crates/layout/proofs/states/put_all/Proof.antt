@@ -48,18 +48,22 @@ put-128-requires c κs = search needs
 put-number-requires : tie.Need-put-number-requires
 put-number-requires c κs = search needs
 
+put-body-requires : tie.Need-put-body-requires
+put-body-requires c κs = search needs
+
 same-length : tie.Need-same-length
 same-length c = search needs
 
 returns : tie.Need-returns
 returns c =
-    let n₅ = c .before .before in
+    let n₆ = c .before .before in
+    let n₅ = n₆ .before .before .before .before in
     let n₄ = n₅ .before .before .before .before in
     let n₃ = n₄ .before .before .before .before in
     let n₂ = n₃ .before .before .before .before in
     let n₁ = n₂ .before .before .before .before in
     let p = n₁ .before .before in
-    let s = p .before .before .before .before .before .before .before .before in
+    let s = p .before .before .before .before .before .before .before .before .before in
     let r = s .args .r in
     let d = now (s .args .state) in
     let f = p .before .first in
@@ -67,9 +71,9 @@ returns c =
     let x = n₂ .put-fixed .ensures in
     let y = n₃ .put-chain .ensures in
     let z = n₄ .put-128 .ensures in
-    let e = all-put r (x .1) (y .1) (z .1) d _ _ _ _ _ m (x .0) (y .0) (z .0) (n₅ .put-number .ensures) in
+    let e = all-put r (x .1) (y .1) (z .1) d _ _ _ _ _ _ m (x .0) (y .0) (z .0) (n₅ .put-number .ensures) (n₆ .put-body .ensures) in
     let k = in-range (r .phase) (f .result) (p .second .result) (f .ensures .0) (p .second .ensures) (f .ok) (p .second .ok) (f .ensures .1) in
     (e, ap decoded e ∙ decoded-sets r (sound r _ (s .good .0) k) d (s .pre))
 
 pub put-all-spec : {M : Type 1} → statement M
-put-all-spec = tie.close (tie.spec tag-requires first-requires second-requires slice-aggregate-put-numbers put-numbers-requires put-fixed-requires put-chain-requires put-128-requires put-number-requires same-length returns)
+put-all-spec = tie.close (tie.spec tag-requires first-requires second-requires slice-aggregate-put-numbers put-numbers-requires put-fixed-requires put-chain-requires put-128-requires put-number-requires put-body-requires same-length returns)

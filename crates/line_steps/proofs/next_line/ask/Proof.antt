@@ -19,6 +19,18 @@ part-chain-end c = search needs
 chain-requires : tie.Need-chain-requires
 chain-requires c κs = search needs
 
+sub-add : tie.Need-sub-add
+sub-add c = search needs
+
+part-add-start : tie.Need-part-add-start
+part-add-start c = search needs
+
+part-add-end : tie.Need-part-add-end
+part-add-end c = search needs
+
+add-requires : tie.Need-add-requires
+add-requires c κs = search needs
+
 offset-of-requires : tie.Need-offset-of-requires
 offset-of-requires c κs = search needs
 
@@ -32,7 +44,7 @@ same-length : tie.Need-same-length
 same-length c = search needs
 
 returns : tie.Need-returns
-returns c = λ h. rw (c .with-hash .ensures) (asked-is _ _ _ _ (c .before .before .before .before .before .before .before .before .before .before .before .before .before .least .ensures) (c .before .before .before .before .before .before .before .before .chain2 .ensures) _ _ _ _ _ (c .before .before .before .before .before .before .offset-of .ensures) (c .before .before .before .message .ensures))
+returns c = λ h. rw (c .with-hash .ensures) (asked-is _ _ _ _ (c .before .before .before .before .before .before .before .before .before .before .before .before .before .before .before .least .ensures) (c .before .before .before .before .before .before .before .before .before .before .chain2 .ensures) _ (c .before .before .before .before .before .before .before .before .add .ensures) _ _ _ _ _ (c .before .before .before .before .before .before .offset-of .ensures) (c .before .before .before .message .ensures))
 
 pub ask-spec : {M : Type 1} → statement M
 ask-spec =
@@ -43,6 +55,10 @@ ask-spec =
     part-chain-start
     part-chain-end
     chain-requires
+    sub-add
+    part-add-start
+    part-add-end
+    add-requires
     offset-of-requires
     message-requires
     with-hash-requires

@@ -65,6 +65,18 @@ enum-told-4 c = search needs
 not-due-requires-4 : tie.Need-not-due-requires-4
 not-due-requires-4 c κs = search needs
 
+enum-told-5 : tie.Need-enum-told-5
+enum-told-5 c = search needs
+
+not-due-requires-5 : tie.Need-not-due-requires-5
+not-due-requires-5 c κs = search needs
+
+enum-told-6 : tie.Need-enum-told-6
+enum-told-6 c = search needs
+
+not-due-requires-6 : tie.Need-not-due-requires-6
+not-due-requires-6 c κs = search needs
+
 same-length : tie.Need-same-length
 same-length c = search needs
 
@@ -114,9 +126,15 @@ returns-7 c = push-at _ _ _ _ _ _ (c .before .enum-told2 .given .1) (rw (c .not-
 same-length-7 : tie.Need-same-length-7
 same-length-7 c = search needs
 
+same-length-8 : tie.Need-same-length-8
+same-length-8 c = search needs
+
+same-length-9 : tie.Need-same-length-9
+same-length-9 c = search needs
+
 returns-8 : tie.Need-returns-8
 unfolding pushAt
-returns-8 c = push-at _ _ _ _ _ _ (c .before .before .before .before .before .phase6 .given .1) (c .before .before .push-trailer .ensures _ _)
+returns-8 c = push-at _ _ _ _ _ _ (c .before .before .before .before .before .before .before .before .before .phase6 .given .1) (c .before .before .before .before .push-trailer .ensures)
 
 returns-9 : tie.Need-returns-9
 unfolding pushAt
@@ -125,6 +143,14 @@ returns-9 c = push-at _ _ _ _ _ _ (c .before .enum-told3 .given .1) (rw (c .not-
 returns-10 : tie.Need-returns-10
 unfolding pushAt
 returns-10 c = push-at _ _ _ _ _ _ (c .before .enum-told4 .given .1) (rw (c .not-due4 .ensures))
+
+returns-11 : tie.Need-returns-11
+unfolding pushAt
+returns-11 c = push-at _ _ _ _ _ _ (c .before .enum-told5 .given .1) (rw (c .not-due5 .ensures))
+
+returns-12 : tie.Need-returns-12
+unfolding pushAt
+returns-12 c = push-at _ _ _ _ _ _ (c .before .enum-told6 .given .1) (rw (c .not-due6 .ensures))
 
 pub push-spec : {M : Type 1} → statement M
 push-spec =
@@ -150,6 +176,10 @@ push-spec =
     not-due-requires-3
     enum-told-4
     not-due-requires-4
+    enum-told-5
+    not-due-requires-5
+    enum-told-6
+    not-due-requires-6
     same-length
     same-length-2
     returns
@@ -164,6 +194,10 @@ push-spec =
     returns-6
     returns-7
     same-length-7
+    same-length-8
+    same-length-9
     returns-8
     returns-9
-    returns-10)
+    returns-10
+    returns-11
+    returns-12)

@@ -1,0 +1,2 @@
+pub mod TrailerLaws
+pub mod KeptTrailer

@@ -1,0 +1,8 @@
+//! Signed streams (version 4) made from any bytes: what the program `oui-sign` is made of.
+
+#![forbid(unsafe_code)]
+
+pub mod ends;
+pub mod header;
+pub mod key;
+pub mod show;
