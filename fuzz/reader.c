@@ -26,9 +26,12 @@ static const struct plan enough = {0, 0, 0, 0};
 struct told {
     uint64_t digest;
     uint64_t place;
+    uint64_t start; /* where the body starts in the show: 0, unless it is a part answer */
     uint64_t body;
+    uint64_t last; /* the last byte of a part answer */
     unsigned answers;
     int accepted;
+    int is_part;
     int asks_of_end; /* whether the last question was about the body's end: the text of a head, after the head's own */
     int over;
     int is_asked_for; /* whether the URI asked for is the head's */
@@ -148,6 +151,26 @@ static void tell_lines(struct told *told) {
     digest(told, &vary, 1);
 }
 
+/* What the accepted head says of its range: a part answer has one, which is some whole blocks of the show. */
+static void tell_range(struct told *told, uint64_t status) {
+    const uint8_t *state = lent()->state;
+    uint64_t total = 0, block = ouinet_reader_number(state + 40);
+    must(!ouinet_reader_range(state, OUINET_READER_STATE_SIZE - 1, &told->start, &told->last, &total), "a short state has no range");
+    told->is_part = ouinet_reader_range(state, OUINET_READER_STATE_SIZE, &told->start, &told->last, &total);
+    must(told->is_part == (status == 206), "a part answer has the status 206");
+    if (!told->is_part) return;
+    must(told->start <= told->last && told->last < total && total <= 4294967296u, "a part lies within its show");
+    must(told->start % block == 0 && (told->last + 1 == total || (told->last + 1) % block == 0), "a part is whole blocks");
+    told->body = told->start;
+}
+
+/* The total of the last word, if it is a good one: that of the blocks that were handed out, and of a part all that it was to have. */
+static void check_total(const struct told *told, uint8_t word, uint64_t total) {
+    if (word != OUINET_READER_CLOSED && word != OUINET_READER_COMPLETE) return;
+    must(total == told->body - told->start, "the total is that of the blocks");
+    if (told->is_part) must(word == OUINET_READER_CLOSED && told->body == told->last + 1, "a part is closed behind its last byte");
+}
+
 /* The word with all it carries, and what is handed out after it. */
 static void tell(struct told *told, uint8_t word) {
     static const uint8_t name[] = "X-Ouinet-URI";
@@ -160,9 +183,10 @@ static void tell(struct told *told, uint8_t word) {
     if (word == OUINET_READER_BLOCK) {
         must(first == told->body, "blocks follow one another");
         told->body += second;
+        must(!told->is_part || told->body <= told->last + 1, "a part has no byte behind its last one");
         digest(told, l->block, block);
     }
-    if (word == OUINET_READER_CLOSED || word == OUINET_READER_COMPLETE) must(first == told->body, "the total is that of the blocks");
+    check_total(told, word, first);
     if (word == OUINET_READER_COMPLETE) must(told->asks_of_end, "the last yes is about the end");
     if (word == OUINET_READER_REFUSED) {
         check_place(told->place);
@@ -181,6 +205,7 @@ static void tell(struct told *told, uint8_t word) {
         must(length == asked_length() && memcmp(value, asked_uri(), length) == 0, "and it is the one asked for");
         digest(told, value, length);
         told->accepted = 1;
+        tell_range(told, first);
         /* It is not looked at any more */
         ask_otherwise(told->place);
     }
@@ -248,6 +273,8 @@ static void forged(const struct plan *plan, const uint8_t *bytes, size_t size) {
         must(word != OUINET_READER_QUESTION || first_number() <= OUINET_READER_QUESTION_SIZE, "so does a question");
         must(word != OUINET_READER_BLOCK || second_number() <= OUINET_READER_BLOCK_SIZE, "and the block that a word names");
         must(word != OUINET_READER_REFUSED || second_number() <= OUINET_READER_BLOCK_SIZE, "and the place of a refusal");
+        uint64_t range[3];
+        ouinet_reader_range(l->state, OUINET_READER_STATE_SIZE, &range[0], &range[1], &range[2]);
         line_count("X-Ouinet-URI");
         line_count("vary");
         feature_of_word(word, first_number());

@@ -23,7 +23,7 @@
  * A call that is refused with 1 or 2 leaves the same state; bytes that no call has written, and that say the same state in another way,
  * may come back in the usual one.
  * Between the calls of one stream leave the bytes of head, block and question as they are: a head buffer that no longer holds a good
- * head makes the stream end in OUINET_READER_BAD_ENDS, whether or not it has fields about its end.
+ * head makes the stream end in OUINET_READER_BAD_ENDS, whether or not it has fields about its end, and also where it is a part answer.
  *
  * A sitting (docs/INTERFACE.md has it at length):
  *
@@ -51,7 +51,7 @@ extern "C" {
 
 /* ---- sizes, in bytes */
 
-#define OUINET_READER_STATE_SIZE 472
+#define OUINET_READER_STATE_SIZE 504
 #define OUINET_READER_RESULT_SIZE 96
 
 /* The least lengths of the three working buffers. A shorter one is refused with OUINET_READER_NO_ROOM. */
@@ -110,6 +110,34 @@ extern "C" {
  * OUINET_READER_CLOSED for a beginning of the show where all of it is needed.
  */
 
+/* ---- part answers
+ *
+ * Who asks for a range of a show gets a part answer, status 206: some of its blocks, one after the other. Its head is that of the whole answer, with the
+ * same signature, and says more:
+ *
+ *     Content-Range         once: `bytes a-b/t`, each number 1 to 12 digits, no leading zero unless it is 0: the first and the last byte of the part, counted
+ *                           from 0, and how many the show has. a is at most b, b below t, t at most 4,294,967,296; a is divisible by the block size N, and
+ *                           b + 1 is t or divisible by N, so that a part is whole blocks
+ *     X-Ouinet-HTTP-Status  200, 301, 302 or 307: the whole answer's status, which stands for (response-status) in the message of the head's question
+ *
+ * Neither need be signed. A 206 that breaks these rules is refused with OUINET_READER_HEAD_RULE; a head of another status may have both fields,
+ * and they mean nothing there.
+ *
+ * OUINET_READER_HEAD says 206, and ouinet_reader_range gives a, b and t from then on. Places in OUINET_READER_BLOCK and in the messages are those in the show:
+ * the first is a. Where a is above 0, the first chunk line carries `;ouihash=` and 88 characters, the hash of the block before, with which the chain of hashes
+ * begins; the signature of the first block covers it. It is refused with OUINET_READER_BAD_OUISIG where it is missing there, and on any other line, of whole
+ * answers too. A 0 line before the part's last byte, and a chunk past it, are refused with OUINET_READER_BAD_SIZE. The fields about the end of
+ * the show are not looked at: a part ends in OUINET_READER_CLOSED, whose number is the bytes of this part, b - a + 1.
+ *
+ * Whoever passes a stream on can send a part where the whole show was asked for. So where only a whole answer will do, stop at OUINET_READER_HEAD with 206:
+ * the blocks that follow do not begin with the show's first byte unless a is 0.
+ *
+ * Each block of a part is a block of the show at its place, by whoever signed it. That t is the show's length is what the sender says, and is not
+ * signed. Where a part is put behind bytes that are there already, the id (state 56) and the block size must be the same, and the 64 bytes at the end of
+ * the first block's message must be the SHA-512 of the hash of the block before, as those bytes give it, and the block: then that block's
+ * signature covers all that is before it.
+ */
+
 /* ---- the result of feed, answer and end */
 
 #define OUINET_READER_RESULT_WORD 0       /* a number: the word, the same as is returned */
@@ -121,9 +149,9 @@ extern "C" {
 /* Words. A number that is not named is 0. */
 #define OUINET_READER_MORE 0     /* the whole piece was taken, and nothing was decided */
 #define OUINET_READER_QUESTION 1 /* first: the message is so many bytes at the front of the question buffer; second: the number of the key's record, from 0 */
-#define OUINET_READER_HEAD 2     /* the head is accepted; first: its status */
-#define OUINET_READER_BLOCK 3    /* a block is handed out; first: its place in the body; second: its length */
-#define OUINET_READER_CLOSED 4   /* the framing ended well; the stream has no end fields, so nothing says that the body is complete; first: the bytes of the body. Final */
+#define OUINET_READER_HEAD 2     /* the head is accepted; first: its status, 206 for a part answer */
+#define OUINET_READER_BLOCK 3    /* a block is handed out; first: its place in the body, of a part answer that in the whole show; second: its length */
+#define OUINET_READER_CLOSED 4   /* the framing ended well; the stream has no end fields or is a part answer, so nothing says that the body is complete; first: the bytes handed out. Final */
 #define OUINET_READER_REFUSED 5  /* first: the number of the refusal; second: with 3 and 6 its place, see there. Final, but for the first two */
 #define OUINET_READER_COMPLETE 6 /* from answer: the body is complete; first: its bytes. The size and the SHA-256 of the bytes handed out are those that the last yes was about. Final */
 
@@ -146,11 +174,11 @@ extern "C" {
 #define OUINET_READER_NOT_DUE 1       /* feed or end with a question open; answer with none open; any call after a final word */
 #define OUINET_READER_NO_ROOM 2       /* head, block or question buffer too short, or the ring's length wrong; tested before 1 */
 #define OUINET_READER_BAD_HEAD 3      /* head text wrong, longer than 32,768 bytes, over 128 field lines, or a field twice that may come only once */
-#define OUINET_READER_HEAD_RULE 4     /* a rule of heads is broken, other than those of 3, 5, 16 and 12 */
+#define OUINET_READER_HEAD_RULE 4     /* a rule of heads is broken, other than those of 3, 5, 16 and 12; the rules of a part answer's head are among them */
 #define OUINET_READER_BAD_VERSION 5   /* the version is there, and is not 4 */
 #define OUINET_READER_BAD_FRAME 6     /* chunk line, end of data or trailer wrong, a line longer than 128 bytes, or a trailer longer than 32,768 */
-#define OUINET_READER_BAD_SIZE 7      /* a chunk's size is against the block rule */
-#define OUINET_READER_BAD_OUISIG 8    /* a block's signature is missing where it is due, or there where it is not */
+#define OUINET_READER_BAD_SIZE 7      /* a chunk's size is against the block rule; in a part answer also a 0 line before its last byte, or a chunk past it */
+#define OUINET_READER_BAD_OUISIG 8    /* ouisig, a block's signature, or ouihash, the hash that a part begins with, is missing where it is due, or there where it is not */
 #define OUINET_READER_TOO_LONG 9      /* the body would pass 4,294,967,296 bytes */
 #define OUINET_READER_BAD_SIGNATURE 10 /* the answer was no */
 #define OUINET_READER_UNFINISHED 11   /* the end came before the stream's */
@@ -171,18 +199,24 @@ extern "C" {
  *                          the trailer's
  *      16  second count    with 3, 4 and 5 the block's length, with 6 that of the next, with 7 and 10 the body's; else 0
  *      24  accepted        length of the accepted head, else 0
- *      32  status
+ *      32  status          206 for a part answer
  *      40  block size
  *      48  key             number of its record
  *      56  id              64 bytes
  *     120  id length
- *     128  block number
- *     136  hash            64 bytes: of the block before
+ *     128  block number    in the show: in a part answer, from the first chunk line on, the first block's is its first byte's place divided by the
+ *                          block size
+ *     136  hash            64 bytes: of the block before; at the first block of a part, that of ouihash
  *     200  line            128 bytes: of the chunk line under way
  *     328  released        length of the block that is handed out, else 0
  *     336  digest          eight numbers: the SHA-256 of the body so far, its eight words; of a larger number the lowest four bytes count
  *     400  rest            64 bytes: the body's last bytes that are not hashed yet, as many as the count's remainder by 64
  *     464  count           how many bytes of the body came into that hash
+ *     472  part            1 for a part answer, else 0; any other number is read as 0
+ *     480  first           of a part answer the place of its first byte in the show
+ *     488  last            the place of its last byte
+ *     496  total           how many bytes the show has by the head's word. These three are 0 for a whole answer; all four are written when the head is
+ *                          judged
  *
  * A state that no stream has led to is as safe as any other. With every state, a forged one too:
  *
@@ -235,6 +269,20 @@ uint8_t ouinet_reader_answer(uint8_t *state, size_t state_len, uint8_t *head, si
 /* No bytes will follow. Returns the word, which is always OUINET_READER_REFUSED, or OUINET_READER_SHORT. */
 uint8_t ouinet_reader_end(uint8_t *state, size_t state_len, uint8_t *head, size_t head_len, uint8_t *block, size_t block_len,
                           uint8_t *question, size_t question_len, uint8_t *result, size_t result_len);
+
+/*
+ * Which bytes of the show the part answer has whose head was accepted: 1, and the places of its first and its last byte, counted from 0, and the
+ * number of bytes that the show has by what the head says. 0 for a whole answer, before the head is accepted and where the state is too short; then
+ * nothing is written. With a state that no stream has led to, the three may be any numbers.
+ */
+static inline int ouinet_reader_range(const uint8_t *state, size_t state_len, uint64_t *first, uint64_t *last, uint64_t *total) {
+    if (state_len < OUINET_READER_STATE_SIZE || ouinet_reader_number(state + 24) == 0 || ouinet_reader_number(state + 472) != 1)
+        return 0;
+    *first = ouinet_reader_number(state + 480);
+    *last = ouinet_reader_number(state + 488);
+    *total = ouinet_reader_number(state + 496);
+    return 1;
+}
 
 /*
  * How many bytes at the front of the block buffer are the block that is handed out: from OUINET_READER_BLOCK until the next feed or

@@ -6,49 +6,7 @@ set -uo pipefail
 shopt -s lastpipe # so that a fetch at the end of a pipe can set its status
 cd "$(dirname "$0")/.."
 . scripts/counting
-scripts/library || exit 1
-scripts/cargo-build -p oui-sign -p oui-relay -p oui-fetch || exit 1
-
-top=$PWD
-PATH=$PWD/rust/target/release:$PATH
-work=$(mktemp -d)
-trap 'rm -rf "$work"' EXIT
-cd "$work" || exit 1
-
-# expect NAME TEST..: count a test; where it fails, show what the last command said.
-expect() {
-    check "$@" || sed 's/^/  said: /' said 2>/dev/null | tail -3
-}
-
-# sign WORDS..: oui-sign sign, of the show of the URI in `asked`.
-asked=https://example.com/show
-sign() {
-    oui-sign sign "$@" --uri "$asked"
-}
-
-# fetch WORDS..: oui-fetch with the ring and the file `got`, for that show; sets `status`, and leaves its last words in `said`.
-fetch() {
-    rm -f got
-    timeout 20 oui-fetch --ring ring --uri "$asked" -o got "$@" 2>said
-    status=$?
-}
-
-# fetch_any WORDS..: the same for whatever show comes.
-fetch_any() {
-    rm -f got
-    timeout 20 oui-fetch --ring ring --any-uri -o got "$@" 2>said
-    status=$?
-}
-
-# ended STATUS WORDS: how the last fetch ended, and how its one line on standard error starts.
-ended() {
-    [ "$status" -eq "$1" ] && [ "$(wc -l <said)" -eq 1 ] && [[ $(cat said) == "oui-fetch: $2"* ]]
-}
-
-# told WORDS LINE..: whether the last fetch was refused, and said just this on standard error: the words, and these lines under them.
-told() {
-    [ "$status" -eq 1 ] && { printf 'oui-fetch: %s\n' "$1"; shift; [ $# -eq 0 ] || printf '    %s\n' "$@"; } | cmp -s - said
-}
+. scripts/fetching
 
 # offset TEXT: where in the file `stream` the text first stands.
 offset() {
@@ -725,7 +683,8 @@ done
 timeout 20 oui-fetch --ring ring --uri "$asked" --require-complete missing 2>said
 expect 'no stream that could be complete' test $? -eq 2
 oui-fetch --help >said
-expect 'its help has every status' grep -qx 'Exit status: 0 complete or closed, 1 refused, 2 a file or a word that is no good, 3 closed and not complete with --require-complete.' said
+expect 'its help has every status' test "$(grep -A 1 '^Exit status: ' said)" = 'Exit status: 0 complete, or closed and no byte is known to be missing; 1 refused; 2 a file or a word is no good, or the stream does not fit BODY;
+3 closed, and bytes are missing or, with --require-complete, nothing says that none are.'
 
 # The example of the small program, whose answers are given there, without the three fields and with them
 cp "$top"/crates/ouiread/data/ring ring

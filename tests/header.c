@@ -1,8 +1,8 @@
 /*
  * include/ouinet_reader.h and the library behind it, from C: the example stream of crates/ouiread/data goes through in pieces of one size, without
  * and with the fields about its end, and what is said must be paper 01's nine lines, and the lines of crates/ouiread/stdout; then what is wrong with
- * these fields; then wrong texts, and the place that is told of each; then heads with repeated fields; then URIs that were asked for and are not the
- * head's; then heads and trailers as long as they may be, and buffers as long as they had to be before request #108; then the sizes that the header
+ * these fields; then document 000's part answer, and what is wrong with others; then wrong texts, and the place that is told of each; then heads with
+ * repeated fields; then URIs that were asked for and are not the head's; then heads and trailers as long as they may be, and buffers as long as they had to be before request #108; then the sizes that the header
  * names, each beside one that is one byte short; then forged states, in buffers that are longer than named and marked beyond.
  * tests/header.sh builds and runs it. Its last line is 'N passed, M failed'.
  */
@@ -152,7 +152,7 @@ static void look_inside(const uint8_t *stream, size_t length) {
     uint8_t zeros[64] = {0};
     size_t head_length = 0;
     ouinet_reader_fresh(state, STATE);
-    expect("a fresh state is zeros, but for the hash of no bytes", !memcmp(state, (uint8_t[STATE]){0}, 336) && !memcmp(state + 400, zeros, 64) && number(state + 464) == 0);
+    expect("a fresh state is zeros, but for the hash of no bytes", !memcmp(state, (uint8_t[STATE]){0}, 336) && !memcmp(state + 400, (uint8_t[STATE]){0}, STATE - 400));
     expect("which is there", number(state + 336) == 0x6a09e667 && number(state + 392) == 0x5be0cd19);
     expect("a question comes", feed(stream, length) == OUINET_READER_QUESTION);
     head_length = (size_t)number(result + OUINET_READER_RESULT_TAKEN);
@@ -557,6 +557,148 @@ static void refuse_ends(const char *whole, size_t piece) {
     }
 }
 
+/* ---- part answers */
+
+#define HASH "NhX4DJ0pPtdAJof5SyLVjlKbjMeRb4+sf933+9WvTPd309eVp6AKFr9+fz+5Vh7puq5IDan+ehh2nnGIawPzFQ=="
+#define RANGE "Content-Range: bytes 5-11/12\r\n"
+#define WAS_200 "X-Ouinet-HTTP-Status: 200\r\n"
+
+/* The example's head with status 206 and these lines. Its length. */
+static size_t part_head(char *to, const char *stream, const char *lines) {
+    size_t length = head_with(to, stream, lines, "");
+    memcpy(to + strlen("HTTP/1.1 "), "206", 3);
+    return length;
+}
+
+/* Document 000's part answer: the second and the third block, their signatures the example's. Its length. */
+static size_t part_of(char *to, const char *stream) {
+    const char *second = strstr(stream, "\r\n worl") + 2;
+    size_t length = part_head(to, stream, RANGE WAS_200);
+    return length + (size_t)sprintf(to + length, "5;ouihash=" HASH "\r\n%.*s\r\n", (int)(stream + trailer_start(stream) - second), second);
+}
+
+/* What ouinet_reader_range gives of the state, as a line; empty where it gives nothing, and then it writes nothing either. */
+static const char *range(size_t length) {
+    static char line[96];
+    uint64_t first = 91, last = 92, total = 93;
+    *line = 0;
+    if (ouinet_reader_range(state, length, &first, &last, &total))
+        sprintf(line, "%llu-%llu/%llu", (unsigned long long)first, (unsigned long long)last, (unsigned long long)total);
+    else
+        expect("nothing is written where there is no range", first == 91 && last == 92 && total == 93);
+    return line;
+}
+
+/* The four numbers at the end of the state. */
+static int ends_in(uint64_t part, uint64_t first, uint64_t last, uint64_t total) {
+    return number(state + 472) == part && number(state + 480) == first && number(state + 488) == last && number(state + 496) == total;
+}
+
+static void tell_range(const char *stream, const char *part, size_t length, size_t piece) {
+    size_t head_length = (size_t)(strstr(part, "\r\n\r\n") - part) + 4;
+    ouinet_reader_fresh(state, STATE);
+    expect("a fresh state has no range", ends_in(0, 0, 0, 0) && !*range(STATE));
+    expect("a part's head is asked about", is_asked(part, head_length, piece));
+    expect("the state has its range", ends_in(1, 5, 11, 12) && number(state + 32) == 206);
+    expect("but it is not told yet", !*range(STATE));
+    expect("it is accepted with 206", answer(1) == OUINET_READER_HEAD && number(result + OUINET_READER_RESULT_FIRST) == 206);
+    expect("now it is", !strcmp(range(STATE), "5-11/12") && !strcmp(range(STATE + 1), "5-11/12"));
+    expect("not of too short a state", !*range(STATE - 1) && !*range(0));
+    read_on((const uint8_t *)part, head_length, head_length + strlen("5;ouihash=" HASH "\r\n w"), piece);
+    expect("its first block is the show's second, after the one whose hash is told", number(state) == 3 && number(state + 128) == 1 && !memcmp(state + 136, "\x36\x15\xf8\x0c", 4));
+    read_on((const uint8_t *)part, head_length + strlen("5;ouihash=" HASH "\r\n w"), length, piece);
+    expect("and after the end, too", number(state) == 8 && number(state + 128) == 3 && !strcmp(range(STATE), "5-11/12"));
+    ouinet_reader_put_number(state + 472, 2);
+    expect("any other number is no part", !*range(STATE));
+    expect("a no tells nothing", is_asked(part, head_length, piece) && answer(0) == OUINET_READER_REFUSED && !*range(STATE));
+    head_length = (size_t)(strstr(stream, "\r\n\r\n") - stream) + 4;
+    expect("a whole answer has none", is_asked(stream, head_length, piece) && answer(1) == OUINET_READER_HEAD && ends_in(0, 0, 0, 0) && !*range(STATE));
+}
+
+/* What comes of a part's head with these lines: the refusal, or 0 where it is asked about. */
+static unsigned part_refused(const char *stream, const char *lines, size_t piece) {
+    char text[4096];
+    size_t length = part_head(text, stream, lines), taken = feed_head(text, length, piece);
+    expect("all of it was taken", taken == length);
+    return number(result + OUINET_READER_RESULT_WORD) == OUINET_READER_QUESTION ? 0 : (unsigned)number(result + OUINET_READER_RESULT_FIRST);
+}
+
+static void refuse_part_heads(const char *stream, size_t piece) {
+    static const char *const good[] = {"5-11/12", "0-11/12", "0-4/12", "5-9/12", "10-11/12", "0-0/1", "4294967295-4294967295/4294967296"},
+                      *const bad[] = {"5-11/*", "05-11/12", "5-10/12", "6-11/12", "5-12/12", "5-4/12", "5-11/12, 0-4/12", "0-4294967296/4294967297",
+                                      "18446744073709551621-18446744073709551627/18446744073709551628", ""};
+    char lines[256];
+    size_t i;
+    for (i = 0; i < sizeof good / sizeof *good; i++) {
+        sprintf(lines, "content-range: bytes %s\r\n" WAS_200, good[i]);
+        expect(good[i], part_refused(stream, lines, piece) == 0);
+    }
+    for (i = 0; i < sizeof bad / sizeof *bad; i++) {
+        sprintf(lines, "Content-Range: bytes %s\r\n" WAS_200, bad[i]);
+        expect(bad[i], part_refused(stream, lines, piece) == OUINET_READER_HEAD_RULE && has_no_place());
+    }
+    expect("the status of the whole answer is signed", part_refused(stream, RANGE "X-Ouinet-HTTP-Status: 307\r\n", piece) == 0 && !memcmp(question, "(response-status): 307\n", 23));
+    expect("it must be there", part_refused(stream, RANGE, piece) == OUINET_READER_HEAD_RULE);
+    expect("and one of four", part_refused(stream, RANGE "X-Ouinet-HTTP-Status: 206\r\n", piece) == OUINET_READER_HEAD_RULE);
+    expect("and the range too", part_refused(stream, WAS_200, piece) == OUINET_READER_HEAD_RULE);
+    expect("once", part_refused(stream, RANGE RANGE WAS_200, piece) == OUINET_READER_HEAD_RULE);
+    expect("as the status", part_refused(stream, RANGE WAS_200 WAS_200, piece) == OUINET_READER_BAD_HEAD);
+}
+
+/* Lines and data behind a part's head: each ends in this refusal when all was taken. */
+static void refuse_part_bodies(const char *stream, size_t piece) {
+    static const struct {
+        const char *body;
+        unsigned refusal, place;
+    } bodies[] = {{"5\r\n", OUINET_READER_BAD_OUISIG, 0}, {"0\r\n", OUINET_READER_BAD_OUISIG, 0}, {"5;ouisig=" HASH "\r\n", OUINET_READER_BAD_OUISIG, 0},
+                  {"0;ouihash=" HASH "\r\n", OUINET_READER_BAD_SIZE, 0}, {"6;ouihash=" HASH "\r\n", OUINET_READER_BAD_SIZE, 0},
+                  {"5;ouihash=\r\n", OUINET_READER_BAD_FRAME, 10}, {"5;ouihasH=\r\n", OUINET_READER_BAD_FRAME, 8}, {"5;ouix\r\n", OUINET_READER_BAD_FRAME, 5},
+                  {"5;ouihash=" HASH "\r\n worl\r\n2;ouihash=" HASH "\r\n", OUINET_READER_BAD_OUISIG, 0},
+                  {"5;ouihash=" HASH "\r\n worl\r\n0;ouisig=" HASH "\r\n", OUINET_READER_BAD_SIZE, 0},
+                  {"5;ouihash=" HASH "\r\n worl\r\n5;ouisig=" HASH "\r\n", OUINET_READER_BAD_SIZE, 0}};
+    static char front[4096];
+    size_t length = part_head(front, stream, RANGE WAS_200), i;
+    for (i = 0; i < sizeof bodies / sizeof *bodies; i++)
+        refuse(front, length, bodies[i].body, strlen(bodies[i].body), piece, bodies[i].refusal, bodies[i].place);
+    length = head_with(front, stream, "", "");
+    refuse(front, length, "5;ouihash=" HASH "\r\n", 100, piece, OUINET_READER_BAD_OUISIG, 0);
+    length = part_head(front, stream, "Content-Range: bytes 0-11/12\r\n" WAS_200);
+    refuse(front, length, "5;ouihash=" HASH "\r\n", 100, piece, OUINET_READER_BAD_OUISIG, 0);
+}
+
+/* All of the show as a part answer, with the fields about its end, good or not: they are not looked at. */
+static void skip_the_end(const char *whole, size_t piece) {
+    static char text[8192];
+    size_t head_length = part_head(text, whole, "Content-Range: bytes 0-11/12\r\n" WAS_200), length;
+    length = head_length + (size_t)sprintf(text + head_length, "%s", strstr(whole, "\r\n\r\n") + 4);
+    expect("good ones", read_all((const uint8_t *)text, length, piece) == length && number(result) == OUINET_READER_CLOSED && number(result + OUINET_READER_RESULT_FIRST) == 12);
+    memcpy(strstr(text + head_length, "Size: 12"), "Size: 13", 8);
+    expect("wrong ones", read_all((const uint8_t *)text, length, piece) == length && number(result) == OUINET_READER_CLOSED && number(result + OUINET_READER_RESULT_FIRST) == 12);
+    expect("and nothing is cleared", !memcmp(block, "Digest:", 7));
+}
+
+/* The head's buffer is overwritten when the head is accepted: a part is refused at the trailer's end then, as a whole answer is. */
+static void lose_the_part_s_head(const char *part, size_t length, size_t piece) {
+    size_t head_length = (size_t)(strstr(part, "\r\n\r\n") - part) + 4;
+    expect("a part's head is accepted", is_asked(part, head_length, piece) && answer(1) == OUINET_READER_HEAD);
+    memset(head, 'x', sizeof head);
+    expect("without its bytes the part is refused with 13", read_on((const uint8_t *)part, head_length, length, piece) == length && is_refused((uint8_t)number(result), OUINET_READER_BAD_ENDS));
+}
+
+static void read_parts(const char *stream, const char *whole, size_t piece) {
+    static const char seven[] = "question 219\nhead 206\nquestion 83\nblock 5 5\nquestion 84\nblock 10 2\nclosed 7\n";
+    static char part[8192], said[4096], body[4096];
+    size_t length = part_of(part, stream);
+    sit((const uint8_t *)part, length, piece, said, body);
+    expect("the seven lines of document 000's part", !strcmp(said, seven));
+    expect("its body", !strcmp(body, " world!"));
+    tell_range(stream, part, length, piece);
+    refuse_part_heads(stream, piece);
+    refuse_part_bodies(stream, piece);
+    skip_the_end(whole, piece);
+    lose_the_part_s_head(part, length, piece);
+}
+
 /* ---- longer heads and trailers */
 
 enum { MOST = 32768, BEFORE = 8192, ROOM = MOST + 4096 };
@@ -845,6 +987,7 @@ int main(int count, char **arguments) {
     expect("the same body", !strcmp(body, "Hello world!"));
     look_up_values();
     defy_forged_parts();
+    read_parts(stream, whole, piece);
     look_inside((const uint8_t *)stream, length);
     find_places(stream, piece);
     count_lines(stream, piece);

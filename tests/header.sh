@@ -1,6 +1,7 @@
 #!/usr/bin/env bash
 # include/ouinet_reader.h as C and as C++, in an old and in a new edition of each; then the program tests/header.c over the proved
-# library, with the example stream in pieces of one byte and of 4,096, without and with the fields about its end, and with forged states.
+# library, with the example stream in pieces of one byte and of 4,096, without and with the fields about its end and as a part answer, and with forged
+# states.
 set -uo pipefail
 cd "$(dirname "$0")/.."
 . scripts/counting

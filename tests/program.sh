@@ -1,6 +1,6 @@
 #!/usr/bin/env bash
-# What ouiread says: the lines of paper 01's example without and with the fields about its end, whole; and beside the events the lines on
-# standard error, exactly as docs/INTERFACE.md has them, and the files that may be pipes. (tests/compare.sh has the malformed files.)
+# What ouiread says: the lines of paper 01's example without and with the fields about its end, and of document 000's part answer, whole; and
+# beside the events the lines on standard error, exactly as docs/INTERFACE.md has them, and the files that may be pipes. (tests/compare.sh has the malformed files.)
 set -uo pipefail
 cd "$(dirname "$0")/.."
 . scripts/counting
@@ -83,6 +83,65 @@ for length in $(seq "$(wc -c <front)" 41 $(($(wc -c <whole) - 1))); do
     run wrong ring five
     expect "cut off after $length" stopped ''
 done
+
+# Document 000's part answer, `bytes 5-11/12`, with the fields about the end in its head as it prints them, made of the example: the second half of
+# the show, whose first line has the hash of the block before it
+hash=NhX4DJ0pPtdAJof5SyLVjlKbjMeRb4+sf933+9WvTPd309eVp6AKFr9+fz+5Vh7puq5IDan+ehh2nnGIawPzFQ==
+part_of() {
+    sed '/^\r/,$d' whole | sed "s/^HTTP.*/HTTP\/1.1 206 Partial Content\r/; /^Trailer:/d"
+    grep -E '^(Digest|X-Ouinet-Data-Size|X-Ouinet-Sig1):' ends
+    printf 'Content-Range: %s\r\nX-Ouinet-HTTP-Status: 200\r\n\r\n' "$1"
+    printf '5;ouihash=%s\r\n worl\r\n' "$hash"
+    LC_ALL=C sed -n '/^2;ouisig=/,/^0;ouisig=/p' whole
+    printf '\r\n'
+}
+part_of 'bytes 5-11/12' >part
+printf 'yyy\n' >yeses
+printf '%s\n' 'question 219' 'head 206' 'question 83' 'block 5 5' 'question 84' 'block 10 2' 'closed 7' >seven
+run part ring yeses
+expect "document 000's part answer" seven ''
+for length in 1 3 1000; do
+    echo "$length" >cuts
+    run part ring yeses cuts body
+    expect "the part, in pieces of $length" seven ''
+    check "its bytes, in pieces of $length" test "$(cat body)" = ' world!'
+done
+rm cuts body
+{ cat seven; echo 'tally blocks 2 bytes 7 closed 1 refused 0'; } >counted
+run part ring yeses --tally
+expect 'the tally of a part' counted ''
+echo 'refused 4' >four-only
+for range in 'bytes 5-10/12' 'bytes 6-11/12' 'bytes 5-12/12' 'bytes 5-11/*' 'bytes 05-11/12' 'Bytes 5-11/12' 'bytes  5-11/12' 'bytes 5-9/12, 10-11/12'; do
+    part_of "$range" >wrong
+    run wrong ring yeses
+    expect "a range of $range" four-only ''
+done
+
+# in_part NAME LINES REFUSAL SED..: the part edited gives the first so many lines, and then a refusal.
+in_part() {
+    local name=$1 count=$2 refusal=$3
+    shift 3
+    LC_ALL=C sed "$@" part >wrong
+    { head -n "$count" seven; echo "refused $refusal"; } >refused
+    run wrong ring yeses
+    expect "$name" refused ''
+}
+in_part 'no status of the whole answer' 0 4 '/^X-Ouinet-HTTP-Status:/d'
+in_part '206 as the status of the whole answer' 0 4 's/^X-Ouinet-HTTP-Status: 200/X-Ouinet-HTTP-Status: 206/'
+in_part 'two ranges' 0 4 '/^Content-Range:/p'
+in_part 'a first line without its hash' 2 8 's/^5;ouihash=.*/5\r/'
+in_part 'a hash of 87 characters' 2 6 's/^5;ouihash=N/5;ouihash=/'
+in_part 'the hash on a later line' 2 8 "s/^2;ouisig=.*/2;ouihash=$hash\r/"
+in_part 'a 0 line first' 2 7 's/^5;ouihash/0;ouihash/'
+in_part 'a chunk past the range' 2 7 's/^2;ouisig/3;ouisig/'
+in_part 'a 0 line before the last byte' 2 7 's/^2;ouisig/0;ouisig/'
+LC_ALL=C sed "s/^5\r/5;ouihash=$hash\r/" stream >wrong
+{ head -n 2 nine; echo 'refused 8'; } >refused
+run wrong ring answers
+expect 'a hash in a whole answer' refused ''
+sed 's/^\(Date:\)/Content-Range: bytes x\r\nContent-Range: y\r\nX-Ouinet-HTTP-Status: 404\r\n\1/' stream >plain
+run plain ring answers
+expect 'both fields in a whole answer' nine ''
 
 # at_end NAME REFUSAL SED..: the example with its end edited gives all blocks, and then is refused, without a place.
 at_end() {

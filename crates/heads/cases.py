@@ -124,10 +124,10 @@ def joined(name, lines):
     return ", ".join(v.strip(" \t") for n, v in lines if n.lower() == name.lower())
 
 
-def good(label, fields=GOOD, status=OK, names=NAMES, created=TIME, size=5, key=1, ident=ID, head=None):
-    lines = [("(response-status)", status[9:12]), ("(created)", created)] + fields
+def good(label, fields=GOOD, status=OK, names=NAMES, created=TIME, size=5, key=1, ident=ID, head=None, signed=None, part=""):
+    lines = [("(response-status)", signed or status[9:12]), ("(created)", created)] + fields
     string = "\n".join(f"{n.lower()}: {joined(n, lines)}" for n in names)
-    line = f"{label} asks {len(string)} status {status[9:12]} size {size} key {key} id {ident}\n"
+    line = f"{label} asks {len(string)} status {status[9:12]} size {size}{part} key {key} id {ident}\n"
     if label.startswith("string-"):
         line += f"signature {SIGNED}\n{string}\n"
     CASES.append((label, head or text(fields, status), line))
@@ -449,6 +449,91 @@ def asked():
     broken(16, "order-uri-and-unlike-keys", put("X-Ouinet-BSigs", bsigs(key=OTHER), other))
 
 
+def part_answers():
+    """Answers of status 206, with as few fields as may be: the range against blocks of N bytes, its text, and the status that is signed."""
+    fewest = PSEUDO + OURS
+    partial = "HTTP/1.1 206 Partial Content"
+
+    def head(value="bytes 5-11/12", n=5, signed="200", names=fewest, more=()):
+        fields = put("X-Ouinet-Sig0", sig0(names), put("X-Ouinet-BSigs", bsigs(str(n))))
+        both = [("Content-Range", value), ("X-Ouinet-HTTP-Status", signed)]
+        return [f for f in fields if f[0] not in ("Date", "Content-Type", "Trailer")] + [f for f in both if f[1] is not None] + list(more)
+
+    most = 2**32
+    for n, numbers in [
+        (5, "5-11/12"),
+        (5, "0-11/12"),
+        (5, "0-4/12"),
+        (5, "5-9/12"),
+        (5, "10-11/12"),
+        (5, "0-0/1"),
+        (1, "7-7/12"),
+        (65536, f"0-{most - 1}/{most}"),
+        (65536, f"{most - 65536}-{most - 1}/{most}"),
+        (65536, f"65536-131071/{most - 1}"),
+    ]:
+        good(f"part-{n}-{numbers}", head(f"bytes {numbers}", n), partial, fewest, size=n, signed="200", part=f" part {numbers}")
+    for n, numbers in [
+        (5, "5-10/12"),
+        (5, "6-11/12"),
+        (5, "4-11/12"),
+        (5, "5-12/12"),
+        (5, "5-4/12"),
+        (5, "10-9/12"),
+        (5, "0-5/5"),
+        (5, "0-4/0"),
+        (1, f"0-0/{most + 1}"),
+        (1, f"{most}-{most}/{most + 1}"),
+        (65536, f"65536-131071/{2**64 + 131072}"),
+        (5, f"{2**64 + 5}-11/12"),
+        (5, f"5-{2**64 + 11}/12"),
+        (5, "0-999999999998/999999999999"),
+        (5, "0-9999999999999/10000000000000"),
+    ]:
+        broken(4, f"part-{n}-{numbers}", head(f"bytes {numbers}", n), partial)
+    for label, value in [
+        ("empty", ""),
+        ("in-capitals", "Bytes 5-11/12"),
+        ("without-unit", "5-11/12"),
+        ("with-equals", "bytes=5-11/12"),
+        ("with-two-spaces", "bytes  5-11/12"),
+        ("with-a-tab", "bytes\t5-11/12"),
+        ("with-space-before-hyphen", "bytes 5 -11/12"),
+        ("without-first", "bytes -11/12"),
+        ("without-last", "bytes 5-/12"),
+        ("without-total", "bytes 5-11/"),
+        ("of-unknown-total", "bytes 5-11/*"),
+        ("of-no-range", "bytes */12"),
+        ("cut", "bytes 5-11"),
+        ("with-more", "bytes 5-11/12 x"),
+        ("of-two-ranges", "bytes 0-4/12, 5-11/12"),
+        ("with-zero-before-first", "bytes 05-11/12"),
+        ("with-zero-before-last", "bytes 5-011/12"),
+        ("with-zero-before-total", "bytes 5-11/012"),
+        ("of-two-zeros", "bytes 00-11/12"),
+        ("with-a-sign", "bytes +5-11/12"),
+        ("absent", None),
+    ]:
+        broken(4, f"part-range-{label}", head(value), partial)
+    twice = [("content-range", "bytes 5-11/12")]
+    broken(4, "part-range-twice", head(more=twice), partial)
+    broken(4, "part-range-twice-and-signed", head(names=fewest + ["content-range"], more=twice), partial)
+    for signed in ("200", "301", "302", "307"):
+        good(f"string-part-signs-{signed}", head(signed=signed), partial, fewest, signed=signed, part=" part 5-11/12")
+    for signed in ("206", "204", "", "0200", "20", "200x", None):
+        broken(4, f"part-signs-{signed or repr(signed)}", head(signed=signed), partial)
+    names = fewest + ["content-range", "X-Ouinet-HTTP-Status"]
+    good("string-part-lists-both", head(" bytes 5-11/12\t", signed=" 301 ", names=names), partial, names, signed="301", part=" part 5-11/12")
+    for value, signed in (("x", "x"), ("bytes 0-0/1", "206"), ("bytes 5-11/12", "301")):
+        good(f"whole-with-{value.replace(' ', '-')}-and-{signed}", head(value, signed=signed, more=twice), OK, fewest)
+    good("whole-of-302-with-200", head(signed="200"), "HTTP/1.1 302 Found", fewest)
+    broken(4, "part-and-size-0", head(n=0), partial)
+    broken(5, "order-version-and-part", put("X-Ouinet-Version", "5", head("x")), partial)
+    broken(4, "order-part-and-uri", put("X-Ouinet-URI", "/", head("x")), partial)
+    broken(16, "order-uri-of-a-part", put("X-Ouinet-URI", "/", head()), partial)
+    broken(12, "order-trust-of-a-part", put("X-Ouinet-Injection", injection(ts="0"), head()), partial)
+
+
 def trust():
     for ts, key in [(1000000000, 0), (1500000000, 0), (1584748000, 1), (1584748999, 1)]:
         good(f"trust-at-{ts}", signed_by(FIRST, str(ts)), key=key)
@@ -488,7 +573,7 @@ def order():
     broken(4, "order-length-and-trust", signed_by(STRANGE, TIME) + [("Content-Length", "0")])
 
 
-for part in (limits, text_rules, repetitions, plain_rules, injections, block_signatures, head_signatures, lists, asked, trust, order):
+for part in (limits, text_rules, repetitions, plain_rules, injections, block_signatures, head_signatures, lists, asked, part_answers, trust, order):
     part()
 labels = [label for label, _, _ in CASES]
 assert len(set(labels)) == len(labels) and not any(" " in label for label in labels)

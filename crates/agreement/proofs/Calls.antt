@@ -20,7 +20,7 @@ use Rattle.stream.specs.Head.{headOf, statusDigits, signedOf}
 use Rattle.stream.specs.Limits.{headLimit, blockLimit}
 use Rattle.stream.specs.Lines.{Field}
 use Rattle.stream.specs.Numbers.{decimalValue}
-use Rattle.stream.specs.Stream.{Show, Past, after, Context, rules, blockOffset, bodyWith, showOf}
+use Rattle.stream.specs.Stream.{Show, Past, after, Context, rules, blockOffset, releasedWith, showOf}
 use Rattle.stream.specs.Stream as C
 use Rattle.stream.specs.Terms.{Terms}
 use Rattle.stream.proofs.Sound.{not-whole-empty}
@@ -44,7 +44,7 @@ use Rattle.agreement.proofs.Stands as F
 use Rattle.agreement.proofs.Gathering.{none-gathered, still}
 use Rattle.agreement.proofs.Refusals.{seen-final}
 use Rattle.agreement.proofs.LineSteps.{announced-by}
-use Rattle.agreement.proofs.NextSteps.{offset-now, body-now}
+use Rattle.agreement.proofs.NextSteps.{offset-now, released-now}
 use Rattle.agreement.proofs.Bytes.{FedAs, piece-follows}
 use Rattle.agreement.proofs.Bytes as B
 use Rattle.agreement.proofs.Holds.{Holds, CallFollows, part-is, follows, unchanged-follows, reading-phase, asked-phase, finished-phase, stands-back}
@@ -122,7 +122,7 @@ module _ (terms : Terms) (h : Handed) where
     accepted-holds =
         record {
           stands =
-              F.firstLine (record { id = a .keeps .id; size = a .keeps .size; key = a .keeps .key; head = lies }) (a .sound) (a .none) (none-gathered (d .reader .line))
+              F.firstLine (record { id = a .keeps .id; size = a .keeps .size; extent = a .keeps .extent; key = a .keeps .key; head = lies }) (a .sound) (a .none) (none-gathered (d .reader .line))
               (not-whole-empty (C.firstLine (showOf (terms .ring) (headOf l))) (a .sound));
           lent =
               record {
@@ -157,12 +157,12 @@ module _ (terms : Terms) (h : Handed) where
     abbrev handed : Handed
     handed = record { released = b; signed = h .signed }
 
-    released-holds : Holds terms (configuration (releasing (d .reader) size next) (d .head) (d .block) (d .question)) handed (running (C.announced s (after p b) (bodyWith s p b) next) [])
+    released-holds : Holds terms (configuration (releasing (d .reader) size next) (d .head) (d .block) (d .question)) handed (running (C.announced s (after p b) (releasedWith s p b) next) [])
     unfolding releasing
     released-holds =
-        let e : Line.bodyWith (d .reader) size ≡ bodyWith s p b = body-now (d .reader) s p b size (a .bytes .count) (a .keeps) (a .blocks) (a .sound) in
+        let e : Line.releasedWith (d .reader) size ≡ releasedWith s p b = released-now (d .reader) s p b size (a .bytes .count) (a .keeps) (a .blocks) (a .sound) in
         record {
-          stands = announced-by _ s (after p b) _ (bodyWith s p b) next e (a .keeps) counts (a .onward);
+          stands = announced-by _ s (after p b) _ (releasedWith s p b) next e (a .keeps) counts (a .onward);
           lent = still lent _ refl refl refl refl refl;
           block = a .bytes .bytes;
         }

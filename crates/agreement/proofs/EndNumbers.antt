@@ -11,8 +11,8 @@ use Rattle.octets.specs.Choice.{pick}
 use Rattle.ends.specs.Judgement.{Judgement, asked, endAnswered, endJudged, trailerJudged}
 use Rattle.ends.specs.declared.trailer.EndAnswer.{EndAnswer}
 use Rattle.ends.specs.declared.trailer.EndAnswer.the-variants as N
-use Rattle.stream.specs.Ends.{isClaimed, endsIn, endFault}
-use Rattle.stream.specs.Head.{Head, headOf, textRules}
+use Rattle.stream.specs.Ends.{isChecked, endsIn, endFault}
+use Rattle.stream.specs.Head.{Head, headOf, textRules, rangeOf}
 use Rattle.stream.specs.Lines.{Field}
 use Rattle.stream.specs.Rule.{firstBroken}
 use Rattle.stream.specs.Trailer.{isTrailer}
@@ -29,7 +29,7 @@ numbered-pick false j k a b = b
 
 numbered-end : (most : ℕ) (h : Head) (fs : List Field) (total : ℕ) (hash q : List ℕ) → Numbered (endJudged most h fs total hash q .answer .answer)
 unfolding endJudged endAnswered asked
-numbered-end most h fs total hash q = numbered-pick (isClaimed fs) _ _ (by (endFault h fs total hash) refl) tt
+numbered-end most h fs total hash q = numbered-pick (isChecked (rangeOf h) fs) _ _ (by (endFault h fs total hash) refl) tt
   where
     by : (fault : ℕ) → endFault h fs total hash ≡ fault → Numbered (endAnswered most h (endsIn fs) fault q .answer .answer)
     by zero e = numbered-pick (leb most (length q)) _ _ tt (omega arith)

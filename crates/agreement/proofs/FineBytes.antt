@@ -17,12 +17,13 @@ use Rattle.stream.specs.Head.{headOf, headFault, trustedBy, isWholeHead}
 use Rattle.stream.specs.Limits.{lineLimit}
 use Rattle.stream.specs.Lines.{crlf}
 use Rattle.stream.specs.Ring.{numberOf}
+use Rattle.stream.specs.Range.{Range}
 use Rattle.stream.specs.Terms.{Terms}
 use Rattle.stream.specs.Trailer.{isWholeTrailer}
 use Rattle.judging.specs.Judgement.{headJudged, noneAsked, judged}
 use Rattle.judging.specs.Judgement as J
 use Rattle.state.specs.Configuration.{Configuration, configuration, inPhase, Next, on, stop, refuse}
-use Rattle.line_steps.specs.FirstLine.{firstAnswered, firstGathered, pushFirstLine}
+use Rattle.line_steps.specs.FirstLine.{rangeNow, firstNow, firstJudged, firstAnswered, firstGathered, pushFirstLine}
 use Rattle.line_steps.specs.NextLine.{nextJudged, nextAnswered, nextGathered, pushNextLine}
 use Rattle.body_steps.specs.Data.{pushData, pushDataEnd}
 use Rattle.ends.specs.Judgement.{Judgement}
@@ -70,30 +71,30 @@ fine-end d have size x =
     fine-pick (eqb have 0) _ _ refl (fine-pick (same (getD (d .reader .line) 0 0 ∷ x ∷ []) crlf) _ _ refl (fine-refuse _ size d (omega arith)))
 
 -- a line's refusal has a number of the rules
-fine-first : (d : Configuration) (N : ℕ) (l signature : List ℕ) (fault : ℕ) → lineFault N false true 0 l ≡ fault
-    → Fine (firstAnswered d (unlessFault fault l (goodLine (chunkSize l) signature) .answer))
+fine-first : (d : Configuration) (N : ℕ) (r : Range) (sofar : ℕ) (l carried carried′ : List ℕ) (fault : ℕ) → lineFault N r false true sofar l ≡ fault
+    → Fine (firstAnswered d (unlessFault fault l (goodLine (chunkSize l) carried) .answer) carried′)
 unfolding firstAnswered
-fine-first d N l signature zero e = fine-picked (eqb (chunkSize l) 0) (P.Trailer 0 0) (P.Data 0 (chunkSize l)) refl refl
-fine-first d N l signature (suc n) e = fine-refuse _ 0 d (line-number N false true 0 l n e)
+fine-first d N r sofar l carried carried′ zero e = fine-picked (eqb (chunkSize l) 0) (P.Trailer 0 0) (P.Data 0 (chunkSize l)) refl refl
+fine-first d N r sofar l carried carried′ (suc n) e = fine-refuse _ 0 d (line-number N r false true sofar l n e)
 
 fine-first-line : (d : Configuration) (have x : ℕ) → Fine (pushFirstLine d have x)
-unfolding pushFirstLine firstGathered lineJudged
+unfolding pushFirstLine firstGathered firstJudged lineJudged
 fine-first-line d have x =
     fine-pick (leb lineLimit have) _ _ (fine-refuse _ 0 d (omega arith))
-    (fine-pick (isWholeLine (take (have + 1) (set (d .reader .line) have x))) _ _ (fine-first _ (d .reader .fixed .«block_size») _ _ _ refl) refl)
+    (fine-pick (isWholeLine (take (have + 1) (set (d .reader .line) have x))) _ _ (fine-first _ (d .reader .fixed .«block_size») (rangeNow (d .reader)) (firstNow (d .reader)) _ _ _ _ refl) refl)
 
-fine-next : (d : Configuration) (size N : ℕ) (full : Bool) (sofar : ℕ) (l signature signature′ : List ℕ) (fault : ℕ) → lineFault N true full sofar l ≡ fault
+fine-next : (d : Configuration) (size N : ℕ) (r : Range) (full : Bool) (sofar : ℕ) (l signature signature′ : List ℕ) (fault : ℕ) → lineFault N r true full sofar l ≡ fault
     → Fine (nextAnswered d size (unlessFault fault l (goodLine (chunkSize l) signature) .answer) signature′)
 unfolding nextAnswered Line.asked
-fine-next d size N full sofar l signature signature′ zero e = refl
-fine-next d size N full sofar l signature signature′ (suc n) e = fine-refuse _ size d (line-number N true full sofar l n e)
+fine-next d size N r full sofar l signature signature′ zero e = refl
+fine-next d size N r full sofar l signature signature′ (suc n) e = fine-refuse _ size d (line-number N r true full sofar l n e)
 
 fine-next-line : (d : Configuration) (have size x : ℕ) → Fine (pushNextLine d have size x)
 unfolding pushNextLine nextGathered nextJudged lineJudged
 fine-next-line d have size x =
     fine-pick (leb lineLimit have) _ _ (fine-refuse _ size d (omega arith))
     (fine-pick (isWholeLine (take (have + 1) (set (d .reader .line) have x))) _ _
-    (fine-next _ size (d .reader .fixed .«block_size») (eqb size (d .reader .fixed .«block_size»)) _ _ _ _ _ refl) refl)
+    (fine-next _ size (d .reader .fixed .«block_size») (rangeNow (d .reader)) (eqb size (d .reader .fixed .«block_size»)) _ _ _ _ _ refl) refl)
 
 -- a trailer's, and the end's
 fine-answered : (d : Configuration) (have total : ℕ) (j : Judgement) → Numbered (j .answer .answer) → Fine (judgedAt d have total j)

@@ -13,7 +13,9 @@ use Rattle.sections.specs.Reading.{question}
 use Rattle.sections.specs.Calls.{event}
 use Rattle.sections.specs.Machine.{ruling, gathered, step}
 use Rattle.params.specs.Injection.{padded}
-use Rattle.stream.specs.Head.{headOf, statusDigits, injectionId, blockSize, headSignature, signingString, trustedBy, headFault, isWholeHead}
+use Rattle.ranges.specs.Extent.{extentOf}
+use Rattle.ranges.proofs.Extents.{range-extent}
+use Rattle.stream.specs.Head.{headOf, statusDigits, rangeOf, injectionId, blockSize, headSignature, signingString, trustedBy, headFault, isWholeHead}
 use Rattle.stream.specs.Limits.{headLimit, idLimit}
 use Rattle.stream.specs.Lines.{Field}
 use Rattle.stream.specs.Numbers.{decimalValue}
@@ -70,12 +72,12 @@ module _ (terms : Terms) (fields : List Field) (d : Configuration) (x : ℕ) (le
   abbrev asks : Reader
   asks =
       asking (d′ .reader) (have + 1)
-      (fixing (d′ .reader .fixed) (decimalValue (statusDigits (headOf l))) (blockSize (headOf l)) (numberOf (trustedBy (terms .ring) (headOf l)))
+      (fixing (d′ .reader .fixed) (decimalValue (statusDigits (headOf l))) (blockSize (headOf l)) (extentOf (rangeOf (headOf l))) (numberOf (trustedBy (terms .ring) (headOf l)))
       (padded idLimit (injectionId (headOf l))) (length (injectionId (headOf l))))
 
   kept : Fixes (asks .fixed) (showOf (terms .ring) (headOf l))
   unfolding showOf padded
-  kept = record { id = take-append-seam (injectionId (headOf l)) _; size = refl; key = refl }
+  kept = record { id = take-append-seam (injectionId (headOf l)) _; size = refl; extent = range-extent (rangeOf (headOf l)); key = refl }
 
   question-follows : headFault terms l ≡ 0 → length l ≤ headLimit → length l ≤ length (d .question) → SoundSays (acceptHead (terms .ring) (headOf l)) → Gathered (set (d .head) have x) (have + 1) l
       → Follows terms fields (judgedAt d′ (have + 1) (J.asked (numberOf (trustedBy (terms .ring) (headOf l))) (headOf l) (d .question))) (ruling (acceptHead (terms .ring) (headOf l)))

@@ -12,7 +12,7 @@ use Rattle.octets.specs.Choice.{pick}
 use Rattle.sections.specs.Reading.{question}
 use Rattle.sections.specs.Calls.{event}
 use Rattle.sections.specs.Machine.{asked, ruling, gathered, step}
-use Rattle.chunk.specs.Judging.{lineJudged, unlessFault, goodLine, signatureOf}
+use Rattle.chunk.specs.Judging.{lineJudged, unlessFault, goodLine, carriedBy}
 use Rattle.blocks.specs.Place.{offsetAt}
 use Rattle.blocks.specs.Writing.{atFront, messageWritten}
 use Rattle.number.specs.Writing.{written}
@@ -22,7 +22,8 @@ use Rattle.stream.specs.Blocks.{isWholeLine, carriesSignature, chunkSize, lineS
 use Rattle.stream.specs.Limits.{lineLimit, bodyLimit}
 use Rattle.stream.specs.Lines.{Field}
 use Rattle.stream.specs.Places.{linePlace}
-use Rattle.stream.specs.Stream.{Show, Past, isWhole, unlessBroken, judge, blockOffset, bodyWith, blockQuestion, acceptBlock, judgeNextLine, rules}
+use Rattle.stream.specs.Range.{Range, firstByte}
+use Rattle.stream.specs.Stream.{Show, range, Past, isWhole, unlessBroken, judge, blockOffset, bodyWith, releasedWith, blockQuestion, acceptBlock, judgeNextLine, rules}
 use Rattle.stream.specs.Stream as C
 use Rattle.stream.specs.Terms.{Terms}
 use Rattle.stream.proofs.MessageLaws.{message-length}
@@ -53,6 +54,11 @@ pub body-now : (r : Reader) (s : Show) (p : Past) (b : List ℕ) (n : ℕ) {room
 unfolding Line.bodyWith
 body-now r s p b n c k e h = rw (← c, offset-now r s p (length b) k e h) (omega (arith, h .body))
 
+pub released-now : (r : Reader) (s : Show) (p : Past) (b : List ℕ) (n : ℕ) {room : List ℕ} → length b ≡ n → Keeps (r .fixed) room s → r .chain .number .0 ≡ p .blocks → SoundBlock s p (length b)
+    → Line.releasedWith r n ≡ releasedWith s p b
+unfolding Line.releasedWith releasedWith
+released-now r s p b n c k e h = rw (body-now r s p b n c k e h, k .extent)
+
 -- ---- a message at the front of a buffer
 
 pub front-fits : (m q : List ℕ) → length m ≤ length q → messageWritten m q ≡ written (length m) (m ++ drop (length m) q)
@@ -63,9 +69,9 @@ pub front-length : (m q : List ℕ) → length m ≤ length q → length (m ++ d
 front-length m q h = rw (length-append, length-drop) (omega arith)
 
 -- a line on which a signature is due, and that is good, carries one
-carries : (N : ℕ) (full : Bool) (sofar : ℕ) (l : List ℕ) → lineFault N true full sofar l ≡ 0 → carriesSignature l ≡ true
+carries : (N : ℕ) (r : Range) (full : Bool) (sofar : ℕ) (l : List ℕ) → lineFault N r true full sofar l ≡ 0 → carriesSignature l ≡ true
 unfolding lineFault lineRules
-carries N full sofar l e = rules-hold (lineRules N true full sofar l) refl e .1 .0
+carries N r full sofar l e = rules-hold (lineRules N r true full sofar l) refl e .1 .0
 
 module _ (terms : Terms) (fields : List Field) (d : Configuration) (x : ℕ) (lent : Lent d fields) (none : d .reader .released ≡ 0)
     (s : Show) (p : Past) (size : ℕ) (b : List ℕ) (u : Under d s p size b) (have : ℕ) (g : List ℕ) where
@@ -101,22 +107,22 @@ module _ (terms : Terms) (fields : List Field) (d : Configuration) (x : ℕ) (le
 
   -- the question as it is seen is the reading's
   seen-is : carriesSignature l ≡ true → (e : Configuration) → e .question ≡ messageNow d′ size .bytes
-      → wordSeen (W.Question (messageNow d′ size .count) (d′ .reader .fixed .key)) (signatureOf l) e ≡ event (question (blockQuestion s p b l))
+      → wordSeen (W.Question (messageNow d′ size .count) (d′ .reader .fixed .key)) (carriedBy l) e ≡ event (question (blockQuestion s p b l))
   unfolding wordSeen blockQuestion
   seen-is c e q =
       let m : take (messageNow d′ size .count) (e .question) ≡ message =
       rw (q, message-is) (take-append-seam message (drop (length message) (d .question))) in
       let z : leb (messageNow d′ size .count) (length (e .question)) ≡ true =
       rw (q, message-is, front-length message (d .question) fits) (le-leb (length message) (length (d .question)) fits) in
-      let t : signatureOf l ≡ lineSignature l = rw c refl in
+      let t : carriedBy l ≡ lineSignature l = rw c refl in
       let n : d′ .reader .fixed .key ≡ s .keyNumber = u .keeps .key in
       rw z (λ i. event (question (record { message = m i; signature = t i; keyNumber = n i })))
 
-  question-follows : lineFault (s .size) true (eqb (length b) (s .size)) (bodyWith s p b) l ≡ 0 → SoundSays (acceptBlock s p b l)
-      → Follows terms fields (Line.asked d′ size (chunkSize l) (signatureOf l)) (ruling (acceptBlock s p b l))
+  question-follows : lineFault (s .size) (range s) true (eqb (length b) (s .size)) (bodyWith s p b) l ≡ 0 → SoundSays (acceptBlock s p b l)
+      → Follows terms fields (Line.asked d′ size (chunkSize l) (carriedBy l)) (ruling (acceptBlock s p b l))
   unfolding Line.asked acceptBlock
   question-follows e h =
-      F.says (seen-is (carries (s .size) (eqb (length b) (s .size)) (bodyWith s p b) l e) _ refl) refl
+      F.says (seen-is (carries (s .size) (range s) (eqb (length b) (s .size)) (bodyWith s p b) l e) _ refl) refl
       (record {
         stands =
             F.blockAsked
@@ -134,31 +140,31 @@ module _ (terms : Terms) (fields : List Field) (d : Configuration) (x : ℕ) (le
         taken = none;
       })
 
-  answered : (fault : ℕ) → lineFault (s .size) true (eqb (length b) (s .size)) (bodyWith s p b) l ≡ fault
+  answered : (fault : ℕ) → lineFault (s .size) (range s) true (eqb (length b) (s .size)) (bodyWith s p b) l ≡ fault
       → SoundSays (unlessBroken fault (linePlace l) (acceptBlock s p b l))
       → Follows terms fields
-      (nextAnswered d′ size (unlessFault fault l (goodLine (chunkSize l) (signatureOf l)) .answer) (unlessFault fault l (goodLine (chunkSize l) (signatureOf l)) .signature))
+      (nextAnswered d′ size (unlessFault fault l (goodLine (chunkSize l) (carriedBy l)) .answer) (unlessFault fault l (goodLine (chunkSize l) (carriedBy l)) .carried))
       (ruling (unlessBroken fault (linePlace l) (acceptBlock s p b l)))
   unfolding nextAnswered
   answered zero e h = question-follows e h
-  answered (suc n) e h = refuses _ size d′ (line-number (s .size) true (eqb (length b) (s .size)) (bodyWith s p b) l n e) lent′ none
+  answered (suc n) e h = refuses _ size d′ (line-number (s .size) (range s) true (eqb (length b) (s .size)) (bodyWith s p b) l n e) lent′ none
 
-  pub judged-is : nextJudged (d′ .reader) size l ≡ lineJudged (s .size) true (eqb (length b) (s .size)) (bodyWith s p b) l
+  pub judged-is : nextJudged (d′ .reader) size l ≡ lineJudged (s .size) (range s) true (eqb (length b) (s .size)) (bodyWith s p b) l
   unfolding nextJudged
   judged-is =
       let e : Line.bodyWith (d′ .reader) size ≡ bodyWith s p b =
       body-now (d′ .reader) s p b size (u .bytes .count) (u .keeps) (u .counts .blocks) (u .sound) in
       let n : size ≡ length b = sym (u .bytes .count) in
-      λ i. lineJudged (u .keeps .size i) true (eqb (n i) (u .keeps .size i)) (e i) l
+      λ i. lineJudged (u .keeps .size i) (u .keeps .extent i) true (eqb (n i) (u .keeps .size i)) (e i) l
 
   by : (t : Bool) → isWhole (C.nextLine s p b) l ≡ t → length l ≤ lineLimit → Gathered (set (d .reader .line) have x) (have + 1) l
       → Follows terms fields
-      (pick t (nextAnswered d′ size (nextJudged (d′ .reader) size l .answer) (nextJudged (d′ .reader) size l .signature)) (on d′))
+      (pick t (nextAnswered d′ size (nextJudged (d′ .reader) size l .answer) (nextJudged (d′ .reader) size l .carried)) (on d′))
       (gathered (rules terms) t (C.nextLine s p b) l)
   unfolding rules judge judgeNextLine lineJudged
   by true e m a =
       rw judged-is
-      (answered (lineFault (s .size) true (eqb (length b) (s .size)) (bodyWith s p b) l) refl (judge-sound terms (C.nextLine s p b) l (u .sound) e m))
+      (answered (lineFault (s .size) (range s) true (eqb (length b) (s .size)) (bodyWith s p b) l) refl (judge-sound terms (C.nextLine s p b) l (u .sound) e m))
   by false e m a = F.on (record { stands = F.nextLine (under-on _ _ _ refl refl refl u) a e; lent = lent′; taken = none })
 
   pub next-step : Gathered (d .reader .line) have g → isWhole (C.nextLine s p b) g ≡ false

@@ -15,6 +15,7 @@ use Rattle.stream.specs.Ends.{endRules, endFault}
 use Rattle.stream.specs.Events.{refused}
 use Rattle.stream.specs.Head.{Head, headOf, textRules, callerRules, headFault}
 use Rattle.stream.specs.Lines.{Field}
+use Rattle.stream.specs.Range.{Range}
 use Rattle.stream.specs.Terms.{Terms}
 use Rattle.stream.proofs.RulesHold.{broken-numbered}
 use Rattle.state.specs.Configuration.{Configuration, refuse}
@@ -27,9 +28,9 @@ use Rattle.agreement.proofs.Gathering.{still}
 
 -- ---- numbers
 
-pub line-number : (N : ℕ) (due full : Bool) (sofar : ℕ) (l : List ℕ) (k : ℕ) → lineFault N due full sofar l ≡ suc k → 3 ≤ suc k
+pub line-number : (N : ℕ) (r : Range) (due full : Bool) (sofar : ℕ) (l : List ℕ) (k : ℕ) → lineFault N r due full sofar l ≡ suc k → 3 ≤ suc k
 unfolding lineFault lineRules
-line-number N due full sofar l k e = leb-true 3 (suc k) (broken-numbered (leb 3) (lineRules N due full sofar l) k refl e)
+line-number N r due full sofar l k e = leb-true 3 (suc k) (broken-numbered (leb 3) (lineRules N r due full sofar l) k refl e)
 
 pub head-number : (terms : Terms) (l : List ℕ) (k : ℕ) → headFault terms l ≡ suc k → 3 ≤ suc k
 unfolding headFault textRules callerRules

@@ -54,10 +54,10 @@ unsigned-refuse : (why : Refusal) (count : ℕ) (d : Configuration) → Unsigned
 unfolding refuse
 unsigned-refuse why count d = λ e. refl
 
-unsigned-first : (d : Configuration) (a : LineAnswer) → Unsigned (firstAnswered d a)
+unsigned-first : (d : Configuration) (a : LineAnswer) (carried : List ℕ) → Unsigned (firstAnswered d a carried)
 unfolding firstAnswered
-unsigned-first d (A.Refused n) = unsigned-refuse n 0 d
-unsigned-first d (A.Good size) = tt
+unsigned-first d (A.Refused n) carried = unsigned-refuse n 0 d
+unsigned-first d (A.Good size) carried = tt
 
 unsigned-next : (d : Configuration) (size : ℕ) (a : LineAnswer) (signature : List ℕ) → Unsigned (nextAnswered d size a signature)
 unfolding nextAnswered Line.asked
@@ -67,7 +67,7 @@ unsigned-next d size (A.Good next) signature = λ e. absurd (true≢false e)
 unsigned-head : (d : Configuration) (n : ℕ) (a : HeadAnswer) (signature id : List ℕ) → Unsigned (headAnswered d n a signature id)
 unfolding headAnswered
 unsigned-head d n (H.Refused k) signature id = unsigned-refuse k 0 d
-unsigned-head d n (H.Asks status size key idLength length) signature id = λ e. absurd (true≢false e)
+unsigned-head d n (H.Asks status size extent key idLength length) signature id = λ e. absurd (true≢false e)
 
 unsigned-trailer : (d : Configuration) (have total : ℕ) (a : EndAnswer) (signature : List ℕ) → Unsigned (trailerAnswered d have total a signature)
 unfolding trailerAnswered
@@ -83,7 +83,7 @@ unsigned-push terms d (P.Head have) x =
 unsigned-push terms d (P.HeadAsked n) x = λ e. refl
 unsigned-push terms d (P.FirstLine have) x =
     unsigned-pick (leb lineLimit have) _ _ (unsigned-refuse _ 0 d)
-    (unsigned-pick (isWholeLine (take (have + 1) (set (d .reader .line) have x))) _ _ (unsigned-first _ _) tt)
+    (unsigned-pick (isWholeLine (take (have + 1) (set (d .reader .line) have x))) _ _ (unsigned-first _ _ _) tt)
 unsigned-push terms d (P.Data have size) x = unsigned-pick (leb (length (d .block)) have) _ _ (unsigned-refuse _ have d) tt
 unsigned-push terms d (P.DataEnd have size) x =
     unsigned-pick (eqb have 0) _ _ tt (unsigned-pick (same (getD (d .reader .line) 0 0 ∷ x ∷ []) crlf) _ _ tt (unsigned-refuse _ size d))

@@ -6,6 +6,7 @@ use Prim.Native.Nat.{ℕ, _≤_}
 use lib.Dec.{eqb}
 use lib.ListN.{length, take}
 use Rattle.octets.specs.Choice.{pick}
+use Rattle.ranges.specs.Extent.{rangeIn}
 use Rattle.sections.specs.Reading.{Event, question, message, last, Grant, granted, final}
 use Rattle.sections.specs.Machine.{State, running, asked, finished, Step}
 use Rattle.sections.specs.Machine as M
@@ -19,7 +20,7 @@ use Rattle.stream.specs.Limits.{headLimit, lineLimit, blockLimit}
 use Rattle.stream.specs.Lines.{Field}
 use Rattle.stream.specs.Numbers.{decimalValue}
 use Rattle.stream.specs.Rule.{firstBroken}
-use Rattle.stream.specs.Stream.{Show, Past, nothing, after, Context, isWhole, announced, showOf, blockOffset, bodyWith}
+use Rattle.stream.specs.Stream.{Show, range, Past, nothing, after, Context, isWhole, announced, showOf, blockOffset, releasedWith}
 use Rattle.stream.specs.Stream as C
 use Rattle.stream.specs.Terms.{Terms}
 use Rattle.stream.proofs.Sound.{SoundShow, SoundBlock, Sound}
@@ -45,6 +46,7 @@ pub record Gathered (buffer : List ℕ) (n : ℕ) (g : List ℕ) : Type 0 where
 pub record Fixes (f : Fixed) (s : Show) : Type 0 where
   pub id : take (f .«id_length») (f .id) ≡ s .id
   pub size : f .«block_size» ≡ s .size
+  pub extent : rangeIn (f .extent) ≡ range s
   pub key : f .key ≡ s .keyNumber
 
 -- the accepted head lies in the head buffer; it is a good one
@@ -57,6 +59,7 @@ pub record Lies (room : List ℕ) (n : ℕ) (h : Head) : Type 0 where
 pub record Keeps (f : Fixed) (room : List ℕ) (s : Show) : Type 0 where
   pub id : take (f .«id_length») (f .id) ≡ s .id
   pub size : f .«block_size» ≡ s .size
+  pub extent : rangeIn (f .extent) ≡ range s
   pub key : f .key ≡ s .keyNumber
   pub head : Lies room (f .accepted) (s .head)
 
@@ -104,7 +107,7 @@ module _ (terms : Terms) (d : Configuration) where
     pub hash : d .reader .chain .hash ≡ chained (p .hash) b
     pub body : Holds (d .reader .chain .body) (p .body ++ b)
     pub sound : SoundBlock s p (length b)
-    pub onward : Sound (announced s (after p b) (bodyWith s p b) next)
+    pub onward : Sound (announced s (after p b) (releasedWith s p b) next)
     pub bytes : Gathered (d .block) size b
     pub taken : d .reader .released ≡ 0
 
@@ -119,7 +122,7 @@ module _ (terms : Terms) (d : Configuration) where
   headGrant l = granted (headAccepted (decimalValue (statusDigits (headOf l))) (signedOf (headOf l))) (C.firstLine (showOf (terms .ring) (headOf l)))
 
   abbrev pub blockGrant : Show → Past → ℕ → List ℕ → Grant Context Release LastWord
-  blockGrant s p next b = granted (block (blockOffset s p) b) (announced s (after p b) (bodyWith s p b) next)
+  blockGrant s p next b = granted (block (blockOffset s p) b) (announced s (after p b) (releasedWith s p b) next)
 
   -- in the phase, the reader and its buffers stand for the state
   pub data At : Phase → Standing → Type 0 where

@@ -55,10 +55,10 @@ past-refuse : (why : Refusal) (count : ℕ) (d : Configuration) → Past (refuse
 unfolding refuse
 past-refuse why count d = tt
 
-past-first : (d : Configuration) (a : LineAnswer) → Past (firstAnswered d a)
+past-first : (d : Configuration) (a : LineAnswer) (carried : List ℕ) → Past (firstAnswered d a carried)
 unfolding firstAnswered
-past-first d (A.Refused n) = past-refuse n 0 d
-past-first d (A.Good size) = past-phase (eqb size 0) (P.Trailer 0 0) (P.Data 0 size) refl refl
+past-first d (A.Refused n) carried = past-refuse n 0 d
+past-first d (A.Good size) carried = past-phase (eqb size 0) (P.Trailer 0 0) (P.Data 0 size) refl refl
 
 past-next : (d : Configuration) (size : ℕ) (a : LineAnswer) (signature : List ℕ) → Past (nextAnswered d size a signature)
 unfolding nextAnswered Line.asked
@@ -77,7 +77,7 @@ past-push terms d (P.Head have) x e = absurd (true≢false e)
 past-push terms d (P.HeadAsked n) x e = tt
 past-push terms d (P.FirstLine have) x e =
     past-pick (leb lineLimit have) _ _ (past-refuse _ 0 d)
-    (past-pick (isWholeLine (take (have + 1) (set (d .reader .line) have x))) _ _ (past-first _ _) refl)
+    (past-pick (isWholeLine (take (have + 1) (set (d .reader .line) have x))) _ _ (past-first _ _ _) refl)
 past-push terms d (P.Data have size) x e =
     past-pick (leb (length (d .block)) have) _ _ (past-refuse _ have d)
     (past-phase (leb size (have + 1)) (P.DataEnd 0 size) (P.Data (have + 1) size) refl refl)
@@ -151,7 +151,7 @@ quiet-pick false m m′ n n′ a b = b
 quiet-judged : (d : Configuration) (n : ℕ) (a : HeadAnswer) (signature id : List ℕ) (other : Next) → Quiet (headAnswered d n a signature id) other
 unfolding headAnswered refuse
 quiet-judged d n (H.Refused why) signature id other = record { same-next = λ e. absurd (true≢false (sym e)) }
-quiet-judged d n (H.Asks status size key idLength length) signature id other = record { same-next = λ e. absurd (true≢false (sym e)) }
+quiet-judged d n (H.Asks status size extent key idLength length) signature id other = record { same-next = λ e. absurd (true≢false (sym e)) }
 
 quiet-push : (terms terms′ : Terms) (d : Configuration) (p : Phase) (x : ℕ) → Quiet (pushAt terms p d x) (pushAt terms′ p d x)
 unfolding pushAt pushHead headGathered

@@ -20,14 +20,14 @@ use Rattle.sections.specs.Machine.{ruling, gathered, step}
 use Rattle.sha256.specs.Midstate.{summed}
 use Rattle.sha256.specs.Sha256.{sha256}
 use Rattle.sha256.proofs.Parts.{summed-is}
-use Rattle.stream.specs.Ends.{allFields, isClaimed, endsIn, endSignature, endFault, endString}
+use Rattle.stream.specs.Ends.{allFields, isChecked, endsIn, endSignature, endFault, endString}
 use Rattle.stream.specs.Events.{closed, complete, refused, placeOf, hasPlace}
 use Rattle.stream.specs.Head.{Head, headOf, textRules}
 use Rattle.stream.specs.Limits.{headLimit}
 use Rattle.stream.specs.Lines.{Field}
 use Rattle.stream.specs.Places.{trailerPlace}
 use Rattle.stream.specs.Rule.{firstBroken}
-use Rattle.stream.specs.Stream.{Show, Past, isWhole, unlessBroken, judge, endQuestion, judgeEnd, judgeTrailer, rules}
+use Rattle.stream.specs.Stream.{Show, range, Past, isWhole, unlessBroken, judge, endQuestion, judgeEnd, judgeTrailer, rules}
 use Rattle.stream.specs.Stream as C
 use Rattle.stream.specs.Terms.{Terms}
 use Rattle.stream.specs.Trailer.{isWholeTrailer, isTrailer}
@@ -127,7 +127,7 @@ module _ (terms : Terms) (fields : List Field) (d : Configuration) (x : ℕ) (le
         | false ↦ stop (refused 6 (trailerPlace text))
       ]))
   unfolding endJudged judgeEnd trailerAnswered
-  judged-by true a = end-follows (allFields (s .head) text) (sha256 (p .body)) (isClaimed (allFields (s .head) text)) a
+  judged-by true a = end-follows (allFields (s .head) text) (sha256 (p .body)) (isChecked (range s) (allFields (s .head) text)) a
   judged-by false a = refuses _ (have + 1) after (omega arith) (lent-after (P.Trailer (have + 1) total)) none
 
   pub judgement-is : trailerJudged l text total (summed (d .reader .chain .body)) (d .question)

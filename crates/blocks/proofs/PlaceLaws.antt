@@ -1,7 +1,7 @@
 -- Offsets by the size of the product: exact where it fits, else the largest number. Assumes nothing.
 use mathlib.Core.Path.{_≡_}
-use Prim.Native.Nat.{ℕ, _*_, _≤_, _<_}
-use native.Mathlib.Nat.{min-eq-left, min-eq-right, mul-zero, le-of-lt}
+use Prim.Native.Nat.{ℕ, _*_, _/_, _≤_, _<_}
+use native.Mathlib.Nat.{min-eq-left, min-eq-right, mul-zero, div-zero, le-of-lt}
 use Rattle.blocks.specs.Place.{largest, offsetAt}
 use Rattle.blocks.specs.declared.offsets.BlockNumber.{BlockNumber}
 
@@ -17,3 +17,6 @@ module _ (i : BlockNumber) (N : ℕ) where
   pub offset-none : N ≡ 0 → offsetAt i N ≡ record { 0 = 0 }
   unfolding offsetAt
   offset-none e = rw (e, mul-zero)
+
+pub none-at : (n N : ℕ) → N ≡ 0 → _≡_ {A = BlockNumber} (record { 0 = 0 }) (record { 0 = n / N })
+none-at n N e = rw (e, div-zero n)

@@ -7,4 +7,5 @@ pub use hashes::chain;
 pub use messages::message;
 pub use offsets::BlockNumber;
 pub use offsets::ByteOffset;
+pub use offsets::block_at;
 pub use offsets::offset_of;

@@ -12,12 +12,13 @@ use Rattle.stream.specs.Blocks.{chunkSize, lineFault}
 use Rattle.stream.specs.Buffers.{Buffers, front, withSection, withMessage, pending, withLastWord, effects, buffersAfter, headBytes}
 use Rattle.stream.specs.Bytes.{same}
 use Rattle.sha256.specs.Sha256.{sha256}
-use Rattle.stream.specs.Ends.{allFields, isClaimed, endFault}
+use Rattle.stream.specs.Ends.{allFields, isChecked, endFault}
 use Rattle.stream.specs.Events.{LastWord, closed, complete, refused}
 use Rattle.stream.specs.Head.{headOf, headFault, isWholeHead}
 use Rattle.stream.specs.Lines.{crlf, Field}
+use Rattle.stream.specs.Range.{firstByte}
 use Rattle.stream.specs.Places.{headPlace, linePlace, dataEndPlace, trailerPlace}
-use Rattle.stream.specs.Stream.{Show, Past, nothing, after, bodyWith, Context, head, firstLine, blockData, dataEnd, nextLine, trailer, isWhole, Says, announced, unlessBroken, acceptHead, acceptBlock, judgeHead, judgeFirstLine, judgeDataEnd, judgeNextLine, endQuestion, judgeEnd, judgeTrailer, judge, rules}
+use Rattle.stream.specs.Stream.{Show, range, Past, startOf, after, bodyWith, releasedWith, Context, head, firstLine, blockData, dataEnd, nextLine, trailer, isWhole, Says, announced, unlessBroken, acceptHead, acceptBlock, judgeHead, judgeFirstLine, judgeDataEnd, judgeNextLine, endQuestion, judgeEnd, judgeTrailer, judge, rules}
 use Rattle.stream.specs.Terms.{Terms}
 use Rattle.stream.specs.Trailer.{isTrailer}
 
@@ -47,7 +48,7 @@ unless-onward (suc n) place v h = tt
 
 end-onward : (s : Show) (total : ℕ) (hash : List ℕ) (fs : List Field) → Onward (judgeEnd s total hash fs)
 unfolding judgeEnd
-end-onward s total hash fs = by (isClaimed fs)
+end-onward s total hash fs = by (isChecked (range s) fs)
   where
     by : (t : Bool)
         → Onward
@@ -62,7 +63,8 @@ judge-onward : (terms : Terms) (c : Context) (l : List ℕ) → Onward (judge te
 unfolding judge judgeHead judgeFirstLine judgeDataEnd judgeNextLine judgeTrailer acceptHead acceptBlock
 judge-onward terms head l = unless-onward (headFault terms l) (headPlace l) (acceptHead (terms .ring) (headOf l)) refl
 judge-onward terms (firstLine s) l =
-    unless-onward (lineFault (s .size) false true 0 l) (linePlace l) (go (announced s nothing 0 (chunkSize l))) (announced-past s nothing 0 (chunkSize l))
+    unless-onward (lineFault (s .size) (range s) false true (firstByte (range s)) l) (linePlace l) (go (announced s (startOf s l) 0 (chunkSize l)))
+    (announced-past s (startOf s l) 0 (chunkSize l))
 judge-onward terms (blockData s p n) l = refl
 judge-onward terms (dataEnd s p d) l = by (same l crlf)
   where
@@ -70,8 +72,8 @@ judge-onward terms (dataEnd s p d) l = by (same l crlf)
     by true = refl
     by false = tt
 judge-onward terms (nextLine s p d) l =
-    unless-onward (lineFault (s .size) true (eqb (length d) (s .size)) (bodyWith s p d) l) (linePlace l) (acceptBlock s p d l)
-    (announced-past s (after p d) (bodyWith s p d) (chunkSize l))
+    unless-onward (lineFault (s .size) (range s) true (eqb (length d) (s .size)) (bodyWith s p d) l) (linePlace l) (acceptBlock s p d l)
+    (announced-past s (after p d) (releasedWith s p d) (chunkSize l))
 judge-onward terms (trailer s p total) l = by (isTrailer l)
   where
     by : (t : Bool)

@@ -10,23 +10,25 @@ use lib.ListN.{length, set}
 use Rattle.octets.specs.Choice.{pick}
 use Rattle.sections.specs.Reading.{go}
 use Rattle.sections.proofs.Marks.{markOf, rulingOn, gatheredOn, move}
-use Rattle.chunk.specs.Judging.{lineJudged, unlessFault, goodLine, signatureOf}
+use Rattle.chunk.specs.Judging.{lineJudged, unlessFault, goodLine, carriedBy}
 use Rattle.number.specs.Writing.{Written}
 use Rattle.stream.specs.Blocks.{isWholeLine, chunkSize, lineFault, chained, blockMessage}
 use Rattle.stream.specs.Buffers.{Buffers, front, withSection, withMessage, pending, effects}
 use Rattle.stream.specs.Limits.{lineLimit}
 use Rattle.stream.specs.Lines.{Field}
 use Rattle.stream.specs.Places.{linePlace}
-use Rattle.stream.specs.Stream.{Show, Past, nothing, isWhole, announced, unlessBroken, judge, judgeFirstLine, judgeNextLine, blockOffset, bodyWith, blockQuestion, acceptBlock, rules}
+use Rattle.stream.specs.Range.{firstByte}
+use Rattle.stream.specs.Stream.{Show, range, Past, startOf, isWhole, announced, unlessBroken, judge, judgeFirstLine, judgeNextLine, blockOffset, bodyWith, blockQuestion, acceptBlock, rules}
 use Rattle.stream.specs.Stream as C
 use Rattle.stream.specs.Terms.{Terms}
 use Rattle.state.specs.Configuration.{Configuration, on, lined}
 use Rattle.state.specs.declared.phase.Phase.the-variants as P
-use Rattle.line_steps.specs.FirstLine.{firstAnswered, firstGathered, pushFirstLine}
+use Rattle.line_steps.specs.FirstLine.{firstAnswered, firstJudged, firstGathered, pushFirstLine}
 use Rattle.line_steps.specs.NextLine.{nextJudged, messageNow, nextAnswered, nextGathered, pushNextLine}
 use Rattle.line_steps.specs.NextLine as Line
 use Rattle.agreement.proofs.Stands.{Gathered, Keeps, Lent, Under}
 use Rattle.agreement.proofs.Gathering.{gather, short}
+use Rattle.agreement.proofs.LineSteps.{first-judged}
 use Rattle.agreement.proofs.NextSteps.{message-is, judged-is}
 use Rattle.buffers.specs.Left.{buffers, buffersIn}
 use Rattle.buffers.proofs.Fronts.{within}
@@ -46,18 +48,20 @@ module _ (terms : Terms) (fields : List Field) (d : Configuration) (x : ℕ) (le
     first = lined d (P.FirstLine (have + 1)) line
 
     first-answered : (fault : ℕ)
-        → Left terms (afterNext (firstAnswered first (unlessFault fault l (goodLine (chunkSize l) (signatureOf l)) .answer)))
-        (markOf (rulingOn (rules terms) effects (C.firstLine s) l (unlessBroken fault (linePlace l) (go (announced s nothing 0 (chunkSize l)))) b))
+        → Left terms
+        (afterNext (firstAnswered first (unlessFault fault l (goodLine (chunkSize l) (carriedBy l)) .answer) (unlessFault fault l (goodLine (chunkSize l) (carriedBy l)) .carried)))
+        (markOf (rulingOn (rules terms) effects (C.firstLine s) l (unlessBroken fault (linePlace l) (go (announced s (startOf s l) 0 (chunkSize l)))) b))
     unfolding firstAnswered pending
     first-answered zero = begins _ b f _
     first-answered (suc n) = refuses first b f _ 0 (C.firstLine s) l refl (omega arith)
 
-    first-by : (N : ℕ) → N ≡ s .size → (t : Bool)
-        → Left terms (afterNext (pick t (firstAnswered first (lineJudged N false true 0 l .answer)) (on first)))
+    first-by : (t : Bool)
+        → Left terms (afterNext (pick t (firstAnswered first (firstJudged (first .reader) l .answer) (firstJudged (first .reader) l .carried)) (on first)))
         (markOf (gatheredOn (rules terms) effects t (C.firstLine s) l b))
     unfolding rules judge judgeFirstLine lineJudged withSection
-    first-by N n true = rw n (first-answered (lineFault (s .size) false true 0 l))
-    first-by N n false = record { same = f; waits = tt }
+    first-by true =
+        rw (first-judged (first .reader) s l k) (first-answered (lineFault (s .size) (range s) false true (firstByte (range s)) l))
+    first-by false = record { same = f; waits = tt }
 
     pub first-leaves : Gathered (d .reader .line) have g → isWhole (C.firstLine s) g ≡ false
         → Left terms (afterNext (pushFirstLine d have x)) (markOf (move (rules terms) effects (C.firstLine s) g b x))
@@ -65,7 +69,7 @@ module _ (terms : Terms) (fields : List Field) (d : Configuration) (x : ℕ) (le
     first-leaves a e =
         let m : have < lineLimit = rw (a .count) at (short (C.firstLine s) g e) in
         let c = gather (d .reader .line) g have x a (rw (lent .line) m) in
-        rw (lt-leb lineLimit have m, c .bytes) (first-by (d .reader .fixed .«block_size») (k .size) (isWholeLine l))
+        rw (lt-leb lineLimit have m, c .bytes) (first-by (isWholeLine l))
 
   -- ---- the line after a block
 
@@ -82,7 +86,7 @@ module _ (terms : Terms) (fields : List Field) (d : Configuration) (x : ℕ) (le
         ap (λ (w : Written). w .bytes) (message-is terms fields d x lent none s p size block u have g)
         ∙ ap (λ (t : Buffers). front message (t .question)) f
 
-    asked-left : Left terms (afterNext (Line.asked next size (chunkSize l) (signatureOf l)))
+    asked-left : Left terms (afterNext (Line.asked next size (chunkSize l) (carriedBy l)))
         (markOf (rulingOn (rules terms) effects (C.nextLine s p block) l (acceptBlock s p block l) b))
     unfolding Line.asked acceptBlock blockQuestion withMessage pending
     asked-left =
@@ -91,7 +95,7 @@ module _ (terms : Terms) (fields : List Field) (d : Configuration) (x : ℕ) (le
 
     next-answered : (fault : ℕ)
         → Left terms
-        (afterNext (nextAnswered next size (unlessFault fault l (goodLine (chunkSize l) (signatureOf l)) .answer) (unlessFault fault l (goodLine (chunkSize l) (signatureOf l)) .signature)))
+        (afterNext (nextAnswered next size (unlessFault fault l (goodLine (chunkSize l) (carriedBy l)) .answer) (unlessFault fault l (goodLine (chunkSize l) (carriedBy l)) .carried)))
         (markOf (rulingOn (rules terms) effects (C.nextLine s p block) l (unlessBroken fault (linePlace l) (acceptBlock s p block l)) b))
     unfolding nextAnswered pending
     next-answered zero = asked-left
@@ -99,12 +103,12 @@ module _ (terms : Terms) (fields : List Field) (d : Configuration) (x : ℕ) (le
 
     next-by : (t : Bool)
         → Left terms
-        (afterNext (pick t (nextAnswered next size (nextJudged (next .reader) size l .answer) (nextJudged (next .reader) size l .signature)) (on next)))
+        (afterNext (pick t (nextAnswered next size (nextJudged (next .reader) size l .answer) (nextJudged (next .reader) size l .carried)) (on next)))
         (markOf (gatheredOn (rules terms) effects t (C.nextLine s p block) l b))
     unfolding rules judge judgeNextLine lineJudged withSection
     next-by true =
         rw (judged-is terms fields d x lent none s p size block u have g)
-        (next-answered (lineFault (s .size) true (eqb (length block) (s .size)) (bodyWith s p block) l))
+        (next-answered (lineFault (s .size) (range s) true (eqb (length block) (s .size)) (bodyWith s p block) l))
     next-by false = record { same = f; waits = tt }
 
     pub next-leaves : Gathered (d .reader .line) have g → isWhole (C.nextLine s p block) g ≡ false

@@ -19,12 +19,12 @@ use Rattle.sections.proofs.Marks.{markOf, rulingOn, gatheredOn, move}
 use Rattle.sha256.specs.Midstate.{summed}
 use Rattle.sha256.specs.Sha256.{sha256}
 use Rattle.stream.specs.Buffers.{Buffers, front, intoBlock, withSection, withMessage, pending, withLastWord, effects}
-use Rattle.stream.specs.Ends.{allFields, isClaimed, endsIn, endFault, endString}
+use Rattle.stream.specs.Ends.{allFields, isChecked, endsIn, endFault, endString}
 use Rattle.stream.specs.Events.{closed, complete, refused}
 use Rattle.stream.specs.Limits.{headLimit}
 use Rattle.stream.specs.Lines.{Field}
 use Rattle.stream.specs.Places.{trailerPlace}
-use Rattle.stream.specs.Stream.{Show, Past, isWhole, unlessBroken, judge, endQuestion, judgeEnd, judgeTrailer, rules}
+use Rattle.stream.specs.Stream.{Show, range, Past, isWhole, unlessBroken, judge, endQuestion, judgeEnd, judgeTrailer, rules}
 use Rattle.stream.specs.Stream as C
 use Rattle.stream.specs.Terms.{Terms}
 use Rattle.stream.specs.Trailer.{isWholeTrailer, isTrailer}
@@ -101,7 +101,7 @@ module _ (terms : Terms) (fields : List Field) (d : Configuration) (x : ℕ) (le
         ])
         (intoBlock text b)))
     unfolding endJudged judgeEnd trailerAnswered pending
-    judged-left true = end-left (allFields (s .head) text) (sha256 (p .body)) (isClaimed (allFields (s .head) text))
+    judged-left true = end-left (allFields (s .head) text) (sha256 (p .body)) (isChecked (range s) (allFields (s .head) text))
     judged-left false = refuses after (intoBlock text b) f _ (have + 1) (C.trailer s p total) text (sym (a .count)) (within a)
 
     trailer-by : (t : Bool)

@@ -59,6 +59,7 @@ fresh-sound =
       phase = record { first = omega arith; second = omega arith; refusal = omega arith };
       fixed =
           record {
+            extent = record { first = omega arith; last = omega arith; total = omega arith };
             accepted = omega arith;
             status = omega arith;
             size = omega arith;

@@ -57,7 +57,7 @@ named-refuse why count e d = tt
 -- a question of at most m bytes, or none
 abbrev AsksUpTo : ℕ → HeadAnswer → Type 0
 AsksUpTo m (H.Refused n) = Unit {0}
-AsksUpTo m (H.Asks status size key idLength n) = n ≤ m
+AsksUpTo m (H.Asks status size extent key idLength n) = n ≤ m
 
 record Judges (m : ℕ) (j : Judgement) : Type 0 where
   long : length (j .question) ≡ m
@@ -86,12 +86,12 @@ module _ (d : Configuration) (n : ℕ) where
   answered-long : (a : HeadAnswer) (signature id : List ℕ) → Long d (deskOf (headAnswered d n a signature id))
   unfolding headAnswered refuse
   answered-long (H.Refused k) signature id = record { head = refl; block = length-cleared 0 (d .block); question = refl }
-  answered-long (H.Asks status size key idLength length) signature id = record { head = refl; block = refl; question = refl }
+  answered-long (H.Asks status size extent key idLength length) signature id = record { head = refl; block = refl; question = refl }
 
   answered-named : (e : Configuration) (a : HeadAnswer) (signature id : List ℕ) → AsksUpTo (length (e .question)) a → NamedNext (headAnswered d n a signature id) e
   unfolding headAnswered refuse
   answered-named e (H.Refused k) signature id m = tt
-  answered-named e (H.Asks status size key idLength length) signature id m = m
+  answered-named e (H.Asks status size extent key idLength length) signature id m = m
 
 long-pick : (d : Configuration) (t : Bool) (m n : Next) → Long d (deskOf m) → Long d (deskOf n) → Long d (deskOf (pick t m n))
 long-pick d true m n a b = a

@@ -48,10 +48,10 @@ count-fits m out = by (leb (length m) (length out)) refl
     by true e = leb-true (length m) (length out) e
     by false e = omega arith
 
-named-first : (d e : Configuration) (a : LineAnswer) → NamedNext (firstAnswered d a) e
+named-first : (d e : Configuration) (a : LineAnswer) (carried : List ℕ) → NamedNext (firstAnswered d a carried) e
 unfolding firstAnswered
-named-first d e (A.Refused n) = named-refuse n 0 d e
-named-first d e (A.Good size) = tt
+named-first d e (A.Refused n) carried = named-refuse n 0 d e
+named-first d e (A.Good size) carried = tt
 
 named-next : (d e : Configuration) (size : ℕ) (a : LineAnswer) (signature : List ℕ) → e .question ≡ d .question → NamedNext (nextAnswered d size a signature) e
 unfolding nextAnswered Line.asked messageNow
@@ -92,7 +92,7 @@ named-push terms d (P.Head have) x = head-named terms d have x
 named-push terms d (P.HeadAsked n) x = tt
 named-push terms d (P.FirstLine have) x =
     named-pick d (leb lineLimit have) _ _ (named-refuse _ 0 d d)
-    (named-pick d (isWholeLine (take (have + 1) (set (d .reader .line) have x))) _ _ (named-first _ d _) tt)
+    (named-pick d (isWholeLine (take (have + 1) (set (d .reader .line) have x))) _ _ (named-first _ d _ _) tt)
 named-push terms d (P.Data have size) x = named-pick d (leb (length (d .block)) have) _ _ (named-refuse _ have d d) tt
 named-push terms d (P.DataEnd have size) x =
     named-pick d (eqb have 0) _ _ tt (named-pick d (same (getD (d .reader .line) 0 0 ∷ x ∷ []) crlf) _ _ tt (named-refuse _ size d d))

@@ -14,7 +14,7 @@ use Rattle.state.specs.declared.reader.Fixed.{Fixed}
 use Rattle.state.specs.declared.reader.Reader.{Reader}
 use Rattle.state.specs.declared.word.Word.the-variants as W
 use Rattle.line_steps.specs.FirstLine.{announced}
-use Rattle.line_steps.specs.NextLine.{bodyWith, offsetNow}
+use Rattle.line_steps.specs.NextLine.{releasedWith, offsetNow}
 use Rattle.calls.specs.Response.{Response, telling, unchanged, given, fits, isReading, recalled}
 
 -- ---- the head's question
@@ -22,7 +22,7 @@ use Rattle.calls.specs.Response.{Response, telling, unchanged, given, fi
 -- a head of n bytes is accepted, so that its signed values are handed out
 abbrev pub acceptedFixed : Fixed → ℕ → Fixed
 acceptedFixed f n =
-    record { accepted = n; status = f .status; «block_size» = f .«block_size»; key = f .key; id = f .id; «id_length» = f .«id_length» }
+    record { accepted = n; status = f .status; «block_size» = f .«block_size»; extent = f .extent; key = f .key; id = f .id; «id_length» = f .«id_length» }
 
 -- and the first chunk line follows
 abbrev pub accepting : Reader → ℕ → Reader
@@ -47,7 +47,7 @@ followed c = record { number = following (c .number); hash = c .hash; body = c .
 
 -- the block of `size` bytes is handed out, and what the line has announced follows
 unfoldable pub releasing : Reader → ℕ → ℕ → Reader
-releasing r size next = readerAt r (announced next (bodyWith r size)) (r .fixed) (followed (r .chain)) size
+releasing r size next = readerAt r (announced next (releasedWith r size)) (r .fixed) (followed (r .chain)) size
 
 -- "N from 1 to 65,536": only a state that no stream leads to has a larger size, and it is clipped
 abbrev pub blockLength : ℕ → ℕ

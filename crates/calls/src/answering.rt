@@ -48,7 +48,7 @@ fn released(r: Reader, size: usize, next: usize) -> Reader
     let number = chain.number;
     let after = following(number);
     chain.number = after;
-    let phase = line_steps::announced(next, line_steps::body_with(r, size));
+    let phase = line_steps::announced(next, line_steps::released_with(r, size));
     let mut reader = state::in_phase(r, phase);
     reader.chain = chain;
     reader.released = size;

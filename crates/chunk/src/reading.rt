@@ -2,14 +2,15 @@
 use classes::Class;
 use number::Number;
 ghost use mathlib.Core.Path.{_≡_};
-ghost use Rattle.chunk.specs.Parts.{wrong as wrongText, extensionRead, textRead, lineRead};
+ghost use Rattle.chunk.specs.Parts.{wrong as wrongText, carriedRead, extensionRead, textRead, lineRead};
 
-// The parts of a text that is good; all are zero and false in a text that is not.
+// The parts of a text that is good; all are zero and false in a text that is not. It carries a signature or a hash, or neither.
 pub(crate) struct ChunkText {
     pub good: bool,
     pub size: u64,
     pub signed: bool,
-    pub signature: [u8; 64],
+    pub hashed: bool,
+    pub carried: [u8; 64],
 }
 
 fn wrong() -> ChunkText
@@ -19,35 +20,48 @@ fn wrong() -> ChunkText
         good: false,
         size: 0,
         signed: false,
-        signature: [0u8; 64],
+        hashed: false,
+        carried: [0u8; 64],
     }
 }
 
-// What stands after the size: nothing, or a signature in base64 with its name in front.
-fn read_extension(rest: &[u8], size: u64) -> ChunkText
-    ensures { λ r. ⌜ r ≡ extensionRead size (now (rest .entry)) ⌝ }
+// What stands after the name of a signature, or of a hash: 64 bytes in base64.
+fn read_carried(value: &[u8], size: u64, signed: bool) -> ChunkText
+    ensures { λ r. ⌜ r ≡ carriedRead size signed (now (value .entry)) ⌝ }
 {
-    let mut signature = [0u8; 64];
-    if rest.len() < 1 {
-        return ChunkText {
-            good: true,
-            size,
-            signed: false,
-            signature,
-        };
-    }
-    if !text::starts_with(rest, 0, b";ouisig=") {
-        return wrong();
-    }
-    if !base64::signature(&rest[8..], &mut signature) {
+    let mut carried = [0u8; 64];
+    if !base64::signature(value, &mut carried) {
         return wrong();
     }
     ChunkText {
         good: true,
         size,
-        signed: true,
-        signature,
+        signed,
+        hashed: !signed,
+        carried,
     }
+}
+
+// What stands after the size: nothing, or a signature or a hash with its name in front.
+fn read_extension(rest: &[u8], size: u64) -> ChunkText
+    ensures { λ r. ⌜ r ≡ extensionRead size (now (rest .entry)) ⌝ }
+{
+    if rest.len() < 1 {
+        return ChunkText {
+            good: true,
+            size,
+            signed: false,
+            hashed: false,
+            carried: [0u8; 64],
+        };
+    }
+    if text::starts_with(rest, 0, b";ouisig=") {
+        return read_carried(&rest[8..], size, true);
+    }
+    if text::starts_with(rest, 0, b";ouihash=") {
+        return read_carried(&rest[9..], size, false);
+    }
+    wrong()
 }
 
 // A line without its CR LF.

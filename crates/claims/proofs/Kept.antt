@@ -21,6 +21,7 @@ use Rattle.kept.proofs.SameEvents.{same-events}
 use Rattle.kept.proofs.SameShow.{same-where-asked}
 use Rattle.kept.proofs.Unchecked.{same-unclosed, none-lost-unchecked}
 use Rattle.kept.proofs.Unclaimed.{same-unclaimed}
+use Rattle.kept.proofs.WholeOnly.{same-whole, none-lost-whole}
 use Rattle.claims.specs.Kept.{KeptFromBefore, OlderBuffersRefused}
 use Rattle.claims.specs.Runs.{words, taken, answers, ended}
 use Rattle.claims.proofs.Asking.{begins-told}
@@ -56,6 +57,8 @@ module _ (keys : KeyRing) (uri h b q : List ℕ) (ks : List Invocation) where
         same-unclosed = λ never. shown _ (same-unclosed (termsOf keys uri) stream given told never);
         same-unclaimed = λ w t rest e g z k c. shown _ (rw (← e) (same-unclaimed (termsOf keys uri) w t rest g z k c given told));
         none-lost-unchecked = begun _ (none-lost-unchecked (termsOf keys uri) stream given told);
+        same-whole = λ four six. shown _ (same-whole (termsOf keys uri) stream given told four six);
+        none-lost-whole = begun _ (none-lost-whole (termsOf keys uri) stream given told);
       }
 
 pub older-buffers-refused : (keys : KeyRing) (uri : List ℕ) (d : Configuration) (r : Request) → OlderBuffersRefused keys uri d r

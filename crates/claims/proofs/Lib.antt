@@ -4,6 +4,7 @@ pub mod Demand3
 pub mod Untold
 pub mod Told
 pub mod Demand2
+pub mod Parts
 pub mod DayTally
 pub mod LentRing
 pub mod Alongside

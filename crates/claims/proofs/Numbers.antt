@@ -18,6 +18,7 @@ use Rattle.stream.specs.GoodText.{isGoodHead, isGoodTrailer}
 use Rattle.stream.specs.Head.{Head, endsHead, headOf, textRules, callerRules}
 use Rattle.stream.specs.Limits.{headLimit, lineLimit}
 use Rattle.stream.specs.Lines.{crlf, endsWith, Field}
+use Rattle.stream.specs.Range.{Range}
 use Rattle.stream.specs.Rule.{firstBroken}
 use Rattle.stream.specs.Terms.{Terms}
 use Rattle.stream.specs.Trailer.{endsTrailer}
@@ -34,9 +35,9 @@ use Rattle.claims.proofs.Refused.{refused-exactly}
 
 -- ---- refused streams
 
-line-in : (N : ℕ) (due full : Bool) (sofar : ℕ) (l : List ℕ) (k : ℕ) → firstBroken (lineRules N due full sofar l) ≡ suc k → isOfStream (suc k) ≡ true
+line-in : (N : ℕ) (r : Range) (due full : Bool) (sofar : ℕ) (l : List ℕ) (k : ℕ) → firstBroken (lineRules N r due full sofar l) ≡ suc k → isOfStream (suc k) ≡ true
 unfolding lineRules
-line-in N due full sofar l k e = broken-numbered isOfStream (lineRules N due full sofar l) k refl e
+line-in N r due full sofar l k e = broken-numbered isOfStream (lineRules N r due full sofar l) k refl e
 
 end-in : (h : Head) (fs : List Field) (total : ℕ) (hash : List ℕ) (k : ℕ) → firstBroken (endRules h fs total hash) ≡ suc k → isOfStream (suc k) ≡ true
 unfolding endRules
@@ -67,8 +68,8 @@ module _ (terms : Terms) where
 
   refuses-in : (front : List ℕ) (yeses n at : ℕ) → Refuses terms front yeses n at → OfStreams n at
   refuses-in front yeses n at (head-refused {h} {n = k} w e x) = wrong-in endsHead isGoodHead h (suc k) at (whole-most endsHead headLimit h (omega arith) w) (head-in h k e) x
-  refuses-in front yeses n at (first-line-refused {l = l} {n = k} g w e x) = wrong-in (endsWith crlf) isChunkLine l (suc k) at (line-most l w) (line-in _ false true 0 l k e) x
-  refuses-in front yeses n at (next-line-refused {l = l} {n = k} g a w e x) = wrong-in (endsWith crlf) isChunkLine l (suc k) at (line-most l w) (line-in _ true _ _ l k e) x
+  refuses-in front yeses n at (first-line-refused {l = l} {n = k} g w e x) = wrong-in (endsWith crlf) isChunkLine l (suc k) at (line-most l w) (line-in _ _ false true _ l k e) x
+  refuses-in front yeses n at (next-line-refused {l = l} {n = k} g a w e x) = wrong-in (endsWith crlf) isChunkLine l (suc k) at (line-most l w) (line-in _ _ true _ _ l k e) x
   refuses-in front yeses n at (data-end-refused g a e o v) =
       record { number = refl; none = λ x. absurd (true≢false x); most = omega (arith, e, v .within) }
   refuses-in front yeses n at (trailer-refused {t = t} g z w o x) =

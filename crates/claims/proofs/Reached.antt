@@ -15,7 +15,7 @@ use Rattle.stream.specs.Stream.{head, rules, plainReading}
 use Rattle.agreement.specs.Loans.{haveRoom, loanFits}
 use Rattle.agreement.specs.Plain.{toldLog}
 use Rattle.agreement.proofs.Streams.{shown-events}
-use Rattle.exactness.specs.Shows.{WholeShow, streamOf, Honest, yesesOf}
+use Rattle.exactness.specs.Shows.{Sending, streamOf, Honest, yesesOf}
 use Rattle.reaching.specs.Driver.{callsOver}
 use Rattle.reaching.proofs.SideBySide.{alike-resumes, alike-took, alike-answers, alike-stands}
 use Rattle.reaching.proofs.Finishing as Finishing
@@ -51,7 +51,7 @@ module _ (keys : KeyRing) (uri h b q : List ℕ) (room : haveRoom h b q ≡ true
         is-over = λ i. alike-stands 0 a ∙ m .is-over i;
       }
 
-  reached : (s : WholeShow) (lengths : List ℕ) (others : List Bool) → Honest (termsOf keys uri) s
+  reached : (s : Sending) (lengths : List ℕ) (others : List Bool) → Honest (termsOf keys uri) s
       → Reached keys uri h b q (ordinaryCalls keys uri h b q lengths (replicate (yesesOf s) true ++ others) (streamOf s)) s
   reached s lengths others g =
       let given = replicate (yesesOf s) true ++ others in

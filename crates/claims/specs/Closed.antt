@@ -1,5 +1,5 @@
--- When a run closes. *Closed* means that the framing ended well: all that the run took is then the stream of some honest show
--- (crate closing, `TakesShow`) that claims no end (request #101: "none of the three, *closed* as today"). It does not say that the show is
+-- When a run closes. *Closed* means that the framing ended well: all that the run took is then the stream of some honest show, or of some honest
+-- part of one (request #104; crate closing, `TakesShow`), that claims no end (request #101: "none of the three, *closed* as today"). It does not say that the show is
 -- complete. Assumes nothing.
 use mathlib.Core.Bool.{false}
 use mathlib.Core.List.{List}

@@ -2,8 +2,8 @@
 -- answer so far was yes, and an honest stream comes out whole. Assumes nothing.
 --
 -- What keeps the rules is said in crate exactness, from the paper and not from the reading: `ReleasesBlock` (a beginning of the stream
--- with a good head, good blocks and good lines, whose last block is this one), `Honest` (a show as its sender may write it down, with an end that
--- it claims rightly, or none: request #101) and `Expected` (which event is due at which byte).
+-- with a good head, good blocks and good lines, whose last block is this one), `Honest` (a show, or since request #104 a part of one,
+-- as its sender may write it down, with an end that it claims rightly, or none: request #101) and `Expected` (which event is due at which byte).
 -- The same theorems about the plain reading alone are `block-exact`, `head-exact`, `exactness` and `show-complete` there.
 use mathlib.Core.Path.{_≡_}
 use mathlib.Core.Bool.{Bool, true}
@@ -20,7 +20,7 @@ use Rattle.agreement.specs.Plain.{told, toldLog}
 use Rattle.agreement.specs.Run.{Invocation}
 use Rattle.exactness.specs.Releases.{ReleasesBlock}
 use Rattle.exactness.specs.ShowEvents.{showEvents}
-use Rattle.exactness.specs.Shows.{WholeShow, streamOf, bodyOf, Honest, yesesOf}
+use Rattle.exactness.specs.Shows.{Sending, streamOf, bodyOf, Honest, yesesOf}
 use Rattle.exactness.specs.Telling.{Expected, Stands}
 use Rattle.claims.specs.Body.{bodyTold}
 use Rattle.claims.specs.Runs.{words, taken, answers, ended}
@@ -43,15 +43,15 @@ module _ (keys : KeyRing) (uri h b q : List ℕ) (ks : List Invocation) where
       → Stands (at, question asked) (events (words keys uri h b q ks))
       ↔ Expected (termsOf keys uri) (taken keys uri h b q ks) (answers keys uri h b q ks) (ended keys uri h b q ks) at (question asked)
 
-  -- AN HONEST SHOW, however its stream is cut, once it is taken and each question was answered with yes, the one about a claimed end too: the
+  -- AN HONEST SHOW, or an honest part of one, however its stream is cut, once it is taken and each question was answered with yes, the one about a claimed end too: the
   -- events are those computed from the show, up to *complete* where an end is claimed, else up to *closed*, and the blocks handed out, joined,
   -- are its body.
-  pub record ComesOutWhole (s : WholeShow) : Type 0 where
+  pub record ComesOutWhole (s : Sending) : Type 0 where
     pub all-events : events (words keys uri h b q ks) ≡ toldLog (showEvents (ringOf keys) s)
     pub whole-body : bodyTold (events (words keys uri h b q ks)) ≡ bodyOf (s .chunks)
 
   abbrev pub HonestComesOut : Type 0
   HonestComesOut =
-      (s : WholeShow) (more : List Bool) → Honest (termsOf keys uri) s
+      (s : Sending) (more : List Bool) → Honest (termsOf keys uri) s
       → taken keys uri h b q ks ≡ streamOf s → answers keys uri h b q ks ≡ replicate (yesesOf s) true ++ more
       → ComesOutWhole s

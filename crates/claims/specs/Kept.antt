@@ -22,6 +22,7 @@ use Rattle.kept.specs.Older.{olderReading}
 use Rattle.kept.specs.OtherLimits.{paperLimits, readingUnder}
 use Rattle.kept.specs.Unasked.{unaskedReading}
 use Rattle.kept.specs.Unchecked.{uncheckedReading}
+use Rattle.kept.specs.WholeOnly.{wholeOnlyReading}
 use Rattle.claims.specs.Runs.{words, taken, answers, ended}
 
 module _ (keys : KeyRing) (uri h b q : List ℕ) (ks : List Invocation) where
@@ -42,6 +43,10 @@ module _ (keys : KeyRing) (uri h b q : List ℕ) (ks : List Invocation) where
   abbrev pub readUnchecked : Log Question Release LastWord
   readUnchecked = uncheckedReading (termsOf keys uri) (taken keys uri h b q ks) (answers keys uri h b q ks) (ended keys uri h b q ks)
 
+  -- and before request #104: every 206 is refused with 4, and no line has an `ouihash`
+  abbrev pub readWholeOnly : Log Question Release LastWord
+  readWholeOnly = wholeOnlyReading (termsOf keys uri) (taken keys uri h b q ks) (answers keys uri h b q ks) (ended keys uri h b q ks)
+
   pub record KeptFromBefore : Type 0 where
     -- #102: where the first of these readings knows no refusal 3, the events are its events, each at its place and with what it hands out
     pub same-events : NeverRefused 3 readBefore → events (words keys uri h b q ks) ≡ toldLog readBefore
@@ -61,6 +66,10 @@ module _ (keys : KeyRing) (uri h b q : List ℕ) (ks : List Invocation) where
         → Good (termsOf keys uri) w → announces w ≡ 0 → GoodTrailer t → claims (headIn w) t ≡ false → events (words keys uri h b q ks) ≡ toldLog readUnchecked
     -- and of any stream all its events but the last are the first events now: nothing that was handed out is lost
     pub none-lost-unchecked : Begins (toldLog (take (length readUnchecked - 1) readUnchecked)) (events (words keys uri h b q ks))
+    -- #104: where the reading without parts knows no refusal 4 and none of 6, nothing changes: a whole answer is read as before
+    pub same-whole : NeverRefused 4 readWholeOnly → NeverRefused 6 readWholeOnly → events (words keys uri h b q ks) ≡ toldLog readWholeOnly
+    -- and of any stream all its events but the last are the first events now
+    pub none-lost-whole : Begins (toldLog (take (length readWholeOnly - 1) readWholeOnly)) (events (words keys uri h b q ks))
 
 -- #108: a head or a question buffer as long as paper 01 asked, which was enough before, is refused with 2 now
 pub record OlderBuffersRefused (keys : KeyRing) (uri : List ℕ) (d : Configuration) (r : Request) : Type 0 where

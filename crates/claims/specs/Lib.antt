@@ -5,6 +5,7 @@ pub mod Words
 pub mod Ordinary
 pub mod Demand1
 pub mod Demand2
+pub mod Parts
 pub mod Demand3
 pub mod Refused
 pub mod Numbers

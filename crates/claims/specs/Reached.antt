@@ -16,7 +16,7 @@ use Rattle.stream.specs.Stream.{plainReading}
 use Rattle.agreement.specs.Loans.{haveRoom}
 use Rattle.agreement.specs.Plain.{toldLog}
 use Rattle.agreement.specs.Run.{Invocation, plainCalls}
-use Rattle.exactness.specs.Shows.{WholeShow, streamOf, Honest, yesesOf}
+use Rattle.exactness.specs.Shows.{Sending, streamOf, Honest, yesesOf}
 use Rattle.reaching.specs.Arrival.{questionsIn}
 use Rattle.claims.specs.Demand2.{ComesOutWhole}
 use Rattle.claims.specs.Ordinary.{ordinaryCalls}
@@ -24,7 +24,7 @@ use Rattle.claims.specs.Runs.{words, taken, answers}
 
 module _ (keys : KeyRing) (uri h b q : List ℕ) (ks : List Invocation) where
   -- AN HONEST SHOW IS REACHED.
-  pub record Reached (s : WholeShow) : Type 0 where
+  pub record Reached (s : Sending) : Type 0 where
     -- each piece begins at the first byte not taken
     pub resumes : Resumes (streamOf s) (plainCalls keys h b q ks) (words keys uri h b q ks)
     -- all of the stream is taken
@@ -50,7 +50,7 @@ module _ (keys : KeyRing) (uri h b q : List ℕ) where
   -- every honest show is reached, with a yes to each question, whatever answers would follow
   abbrev pub HonestReached : Type 0
   HonestReached =
-      haveRoom h b q ≡ true → leb (keys .count) ringLimit ≡ true → (s : WholeShow) (lengths : List ℕ) (others : List Bool) → Honest (termsOf keys uri) s
+      haveRoom h b q ≡ true → leb (keys .count) ringLimit ≡ true → (s : Sending) (lengths : List ℕ) (others : List Bool) → Honest (termsOf keys uri) s
       → Reached keys uri h b q (ordinaryCalls keys uri h b q lengths (replicate (yesesOf s) true ++ others) (streamOf s)) s
 
   -- every stream is read to its end, with any answers

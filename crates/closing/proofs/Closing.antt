@@ -12,7 +12,7 @@ use Rattle.stream.specs.Terms.{Terms}
 use Rattle.exactness.specs.Beginning.{Beginning, written, headIn, announces, body, questions, withEnd}
 use Rattle.exactness.specs.Good.{Good, GoodTrailer, claims, GoodEnd, unclaimed, well-claimed}
 use Rattle.exactness.specs.ShowEvents.{goodWord}
-use Rattle.exactness.specs.Shows.{WholeShow, streamOf, claimsEnd, yesesOf, beginningOf}
+use Rattle.exactness.specs.Shows.{Sending, streamOf, claimsEnd, yesesOf, beginningOf}
 use Rattle.exactness.specs.Telling.{StreamEvent, Decides, head-asked, head-told, block-asked, block-told, body-closed, end-asked, completed, rule-broken, Due, Expected, on-time, Stands, wholeYeses}
 use Rattle.exactness.proofs.Exactness.{exactness}
 use Rattle.exactness.proofs.HonestShows.{show-written, show-body, show-head, show-yeses, show-good, show-end}
@@ -102,7 +102,7 @@ module _ (terms : Terms) where
   due-ends claimed S answers at total d =
       let o = due-ended claimed S answers at total d in
       let w : Beginning = o .beginning in
-      let s : WholeShow = showFrom w (o .trailer) in
+      let s : Sending = showFrom w (o .trailer) in
       let i = is-show terms w (o .trailer) (o .good) (o .zero) (o .good-trailer) (o .good-end) in
       let e : streamOf s ≡ d .front = i .stream ∙ o .stream in
       let n : d .yeses ≡ yesesOf s = o .needs ∙ ap (λ (x : Beginning). wholeYeses x (o .trailer)) (sym (i .parts)) ∙ show-yeses s in
@@ -130,7 +130,7 @@ module _ (terms : Terms) where
   ends-due : (claimed : Bool) (S : List ℕ) (answers : List Bool) (at total : ℕ) → ShowEndsAt terms claimed S answers at total
       → GoodDue claimed S answers at total
   ends-due claimed S answers at total c =
-      let s : WholeShow = c .show in
+      let s : Sending = c .show in
       let g = show-good terms s (c .honest) in
       let claim : claims (headIn (beginningOf s)) (s .trailer) ≡ claimed = rw (show-head s) (c .end) in
       let d = ends-decides claimed (beginningOf s) (s .trailer) (g .0) (g .1) (c .honest .trailer) (show-end terms s (c .honest)) claim in

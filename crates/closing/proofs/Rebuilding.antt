@@ -1,21 +1,22 @@
 -- The show that is read off a good beginning, a good trailer and a good end is honest, and these are its stream. Assumes nothing.
 use mathlib.Core.List.{List, [], _∷_, _++_}
 use mathlib.Core.Path.{_≡_, refl, sym, ap, _∙_}
-use Prim.Native.Nat.{ℕ, _≤_}
+use Prim.Native.Nat.{ℕ, zero, suc, _+_, _≤_}
 use native.Mathlib.Omega.{arith}
 use lib.ListN.{length}
 use Rattle.stream.specs.Blocks.{sizeText, chunkSize}
-use Rattle.stream.specs.Head.{headOf}
+use Rattle.stream.specs.Head.{headOf, rangeOf}
 use Rattle.stream.specs.Limits.{bodyLimit}
 use Rattle.stream.specs.Numbers.{hexValue}
+use Rattle.stream.specs.Range.{Range, whole, part, firstByte}
 use Rattle.stream.specs.Terms.{Terms}
-use Rattle.exactness.specs.Beginning.{Beginning, opening, onward, written, headIn, size, announces, body}
-use Rattle.exactness.specs.Good.{GoodHead, Good, opens, goes-on, GoodTrailer, GoodEnd}
-use Rattle.exactness.specs.Shows.{Chunk, WholeShow, bodyOf, Writes, HonestChunk, HonestChunks, Sized, beginningOf}
+use Rattle.exactness.specs.Beginning.{Beginning, opening, onward, written, headIn, size, range, start, announces, body, hashBefore, hash}
+use Rattle.exactness.specs.Good.{GoodHead, InRange, of-part, Good, opens, goes-on, GoodTrailer, GoodEnd}
+use Rattle.exactness.specs.Shows.{Chunk, Sending, bodyOf, Writes, HonestChunk, HonestChunks, Sized, Before, Carries, beginningOf}
 use Rattle.exactness.proofs.HonestShows.{show-written, show-body}
 use Rattle.closing.specs.Closing.{IsShowOf}
-use Rattle.closing.specs.Rebuilt.{headText, lastLine, chunkBetween, chunksIn, showFrom}
-use Rattle.closing.proofs.Lines.{signature-bytes, signature-length, size-well}
+use Rattle.closing.specs.Rebuilt.{headText, firstHash, lastLine, chunkBetween, chunksIn, showFrom}
+use Rattle.closing.proofs.Lines.{signature-bytes, signature-length, hash-bytes, hash-length, size-well}
 use Rattle.closing.proofs.Parts.{last-good, parts-again}
 
 head-good : (terms : Terms) (w : Beginning) → Good terms w → GoodHead terms (headText w) × (headIn w ≡ headOf (headText w))
@@ -57,16 +58,19 @@ sized-more N [] c f m = m
 sized-more N (d ∷ []) c f m = (f .0, m)
 sized-more N (d ∷ e ∷ cs) c f m = (f .0, sized-more N (e ∷ cs) c (f .1) m)
 
--- where a further block is announced, all so far are full; and it has at most N bytes
+-- where a further block is announced, all so far are full; and it has at most N bytes, which are among those that the answer carries
 record Sizes (w : Beginning) : Type 0 where
   sized : Sized (size w) (chunksIn w)
   full : 1 ≤ announces w → Full (size w) (chunksIn w)
   most : announces w ≤ size w
-  total : length (body w) ≤ bodyLimit
+  carried : InRange (range w) (start w + length (body w)) (announces w)
+  total : start w + length (body w) ≤ bodyLimit
 
 sizes : (terms : Terms) (w : Beginning) → Good terms w → Sizes w
 unfolding chunksIn announces headIn body
-sizes terms w (opens h l) = record { sized = tt; full = λ x. tt; most = l .line .most; total = omega arith }
+sizes terms w (opens {h = h} g l) =
+    let e : firstByte (rangeOf (headOf h)) ≡ firstByte (rangeOf (headOf h)) + 0 = omega arith in
+    record { sized = tt; full = λ x. tt; most = l .line .most; carried = rw e at (l .line .carried); total = omega (arith, l .line .total) }
 sizes terms w (goes-on {w = v} {b = b} {l = l} g a n) =
     let s = sizes terms v g in
     let c : Chunk = chunkBetween (lastLine v) b l in
@@ -75,14 +79,31 @@ sizes terms w (goes-on {w = v} {b = b} {l = l} g a n) =
       sized = sized-more (size v) (chunksIn v) c f (omega (arith, a .just, s .most));
       full = λ x. full-more (size v) (chunksIn v) c f (n .full x);
       most = n .line .most;
+      carried = n .line .carried;
       total = omega (arith, n .line .total);
     }
+
+-- the hash before the first block
+before-is : (terms : Terms) (w : Beginning) → Good terms w → Before (start w) (firstHash w)
+unfolding firstHash hash headIn
+before-is terms w (opens {h = h} {l = l} g k) = by (firstByte (rangeOf (headOf h)))
+  where
+    by : (a : ℕ) → Before a (hashBefore a l)
+    by zero = refl
+    by (suc a) = (hash-bytes l, hash-length l)
+before-is terms w (goes-on {w = v} g a n) = before-is terms v g
+
+-- where a 0 line is good, all bytes came that the answer carries
+all-carried : (r : Range) (body : List ℕ) → InRange r (firstByte r + length body) 0 → firstByte r + length body ≤ bodyLimit → Carries r body
+unfolding firstByte
+all-carried whole body i t = omega arith
+all-carried (part a b n) body (of-part past all) t = all refl
 
 -- A GOOD BEGINNING that ends in a 0 line, and a good trailer, are the stream of an honest show, where they claim a good end or none.
 pub is-show : (terms : Terms) (w : Beginning) (t : List ℕ) → Good terms w → announces w ≡ 0 → GoodTrailer t → GoodEnd (headIn w) (body w) t
     → IsShowOf terms w t (showFrom w t)
 is-show terms w t g z k e =
-    let s : WholeShow = showFrom w t in
+    let s : Sending = showFrom w t in
     let p : beginningOf s ≡ w = parts-again terms w g in
     let b : bodyOf (s .chunks) ≡ body w = sym (show-body s) ∙ ap body p in
     let h = head-good terms w g in
@@ -93,7 +114,8 @@ is-show terms w t g z k e =
             head = h .0;
             chunks = chunks-honest terms w g;
             sized = rw (h .1) at (m .sized);
-            total = rw b (m .total);
+            before = rw (h .1) at (before-is terms w g);
+            total = rw (b, ← h .1) (all-carried (range w) (body w) (rw z at (m .carried)) (m .total));
             zeros = rw z at (last-writes terms w g);
             trailer = k;
             end = rw (b, ← h .1) e;

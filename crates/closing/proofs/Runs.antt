@@ -20,7 +20,7 @@ use Rattle.stream.specs.Stream.{head, rules, plainReading}
 use Rattle.stream.specs.Terms.{Terms}
 use Rattle.exactness.specs.Beginning.{withEnd}
 use Rattle.exactness.specs.ShowEvents.{lineEnd, goodWord, endEvents, chunkEvents, showEvents}
-use Rattle.exactness.specs.Shows.{Chunk, WholeShow, chunkLine, streamOf, claimsEnd, yesesOf, nextDigits}
+use Rattle.exactness.specs.Shows.{Chunk, Sending, chunkLine, hashed, streamOf, claimsEnd, yesesOf, nextDigits}
 use Rattle.exactness.specs.Telling.{Stands}
 use Rattle.exactness.proofs.Completeness.{show-complete}
 use Rattle.closing.specs.Closing.{ShowEndsAt, TakesShow}
@@ -37,7 +37,7 @@ module _ (terms : Terms) where
   one-more true n m k f e = ap suc (f ∙ e)
   one-more false n m k f e = ap suc (f ∙ e)
 
-  chunks-asked : (s : WholeShow) (i : ℕ) (before : List ℕ) (at : ℕ) (cs : List Chunk)
+  chunks-asked : (s : Sending) (i : ℕ) (before : List ℕ) (at : ℕ) (cs : List Chunk)
       → suc (questionsIn (chunkEvents (terms .ring) s i before at cs)) ≡ withEnd (claimsEnd s) (suc (length cs))
   unfolding questionsIn chunkEvents
   chunks-asked s i before at [] = by (claimsEnd s)
@@ -48,11 +48,11 @@ module _ (terms : Terms) where
   chunks-asked s i before at (c ∷ cs) =
       one-more (claimsEnd s) (suc (length cs)) _ _ (omega arith) (chunks-asked s (suc i) (chained before (c .block)) (lineEnd at c cs (s .zeros)) cs)
 
-  show-asked : (s : WholeShow) → questionsIn (showEvents (terms .ring) s) ≡ yesesOf s
+  show-asked : (s : Sending) → questionsIn (showEvents (terms .ring) s) ≡ yesesOf s
   unfolding questionsIn showEvents
   show-asked s =
-      let at : ℕ = length (s .head) + length (chunkLine (nextDigits (s .chunks) (s .zeros)) []) in
-      sym (omega arith) ∙ chunks-asked s 0 [] at (s .chunks)
+      let at : ℕ = length (s .head) + length (chunkLine (nextDigits (s .chunks) (s .zeros)) (hashed (s .before))) in
+      sym (omega arith) ∙ chunks-asked s 0 (s .before) at (s .chunks)
 
   -- where the reading comes to a good end, it is that of the show
   show-read : {claimed : Bool} (S : List ℕ) (answers : List Bool) (told : Bool) (at total : ℕ) (c : ShowEndsAt terms claimed S answers at total)

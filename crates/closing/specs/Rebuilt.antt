@@ -1,14 +1,19 @@
 -- The show that a good beginning and a trailer are the stream of, read off these parts: a chunk's size as the line before its block
--- writes it, and the signature that the line after the block carries. Assumes nothing.
+-- writes it, and the signature that the line after the block carries; the hash that the first line of a part carries. Assumes nothing.
 use mathlib.Core.List.{List, [], _∷_, _++_}
 use Prim.Native.Nat.{ℕ}
 use Rattle.stream.specs.Blocks.{sizeText, lineSignature}
-use Rattle.exactness.specs.Beginning.{Beginning, opening, onward}
-use Rattle.exactness.specs.Shows.{Chunk, WholeShow}
+use Rattle.exactness.specs.Beginning.{Beginning, opening, onward, hash}
+use Rattle.exactness.specs.Shows.{Chunk, Sending}
 
 unfoldable pub headText : Beginning → List ℕ
 headText (opening h l) = h
 headText (onward w b l) = headText w
+
+-- the hash before its first block, nothing where there is none
+unfoldable pub firstHash : Beginning → List ℕ
+firstHash (opening h l) = hash (opening h l)
+firstHash (onward w b l) = firstHash w
 
 unfoldable pub lastLine : Beginning → List ℕ
 lastLine (opening h l) = l
@@ -23,5 +28,5 @@ chunksIn (opening h l) = []
 chunksIn (onward w b l) = chunksIn w ++ chunkBetween (lastLine w) b l ∷ []
 
 -- the last line is the 0 line
-abbrev pub showFrom : Beginning → List ℕ → WholeShow
-showFrom w t = record { head = headText w; chunks = chunksIn w; zeros = sizeText (lastLine w); trailer = t }
+abbrev pub showFrom : Beginning → List ℕ → Sending
+showFrom w t = record { head = headText w; before = firstHash w; chunks = chunksIn w; zeros = sizeText (lastLine w); trailer = t }

@@ -10,7 +10,7 @@ use Rattle.places.specs.Place.{partOf}
 use Rattle.stream.specs.Bytes.{same}
 use Rattle.stream.specs.Ends.{digestName, dataSizeName, sig1Name, isOnce, isDigest, digestBytes, isDataSize, addedNames, sameNames, allFields, endsIn, isEndList, endRules, endFault}
 use Rattle.stream.specs.Fields.{among, valueOf}
-use Rattle.stream.specs.Head.{Head, headOf, headKey, listedNames}
+use Rattle.stream.specs.Head.{Head, headOf, rangeOf, headKey, listedNames}
 use Rattle.stream.specs.Lines.{Field, fieldsOf, textLines}
 use Rattle.stream.specs.Numbers.{decimalValue}
 use Rattle.stream.specs.Rule.{firstBroken}
@@ -26,6 +26,8 @@ use Rattle.head.specs.Reading.{Reads}
 use Rattle.head.specs.declared.whole.HeadRead.{HeadRead}
 use Rattle.head.proofs.ContentLaws.{sig0-good, names-there}
 use Rattle.names.specs.NameList.{namesIn}
+use Rattle.ranges.specs.Extent.{rangeIn}
+use Rattle.ranges.proofs.Extents.{range-extent}
 use Rattle.params.proofs.Answers.{sig0-says, sig0-key, sig0-names}
 use Rattle.ends.specs.Steps.{isListed, isWellMade, faultBy, readFault, faultAfter}
 
@@ -84,6 +86,9 @@ module _ (text : List ℕ) (r : HeadRead) (x : Reads text r) (z : r .fault ≡ 0
   pub all-there : bothIn text (r .fields) trailer ≡ allFields (headOf text) trailer
   unfolding allFields
   all-there = ap (λ (gs : List Field). gs ++ fieldsOf (textLines trailer)) (x .says z .fields)
+
+  pub range-there : rangeIn (r .extent) ≡ rangeOf (headOf text)
+  range-there = ap rangeIn (x .says z .extent) ∙ range-extent (rangeOf (headOf text))
 
   module _ (e : EndRead) (y : ReadsEnd (bothIn text (r .fields) trailer) e) where
     pub reads-end : ReadsEnd (allFields (headOf text) trailer) e

@@ -7,8 +7,8 @@ use borrow.Author.Tests.{ne-eqb, le-leb, lt-leb}
 use lib.ListN.{length}
 use Rattle.end_fields.specs.Found.{AreLines}
 use Rattle.refusals.specs.Refusals.{placed, plain}
-use Rattle.stream.specs.Ends.{allFields, isClaimed}
-use Rattle.stream.specs.Head.{headOf, textRules}
+use Rattle.stream.specs.Ends.{allFields, isChecked}
+use Rattle.stream.specs.Head.{headOf, rangeOf, textRules}
 use Rattle.stream.specs.Lines.{areFieldLines, textLines}
 use Rattle.stream.specs.Places.{trailerPlace}
 use Rattle.stream.specs.Rule.{firstBroken}
@@ -54,11 +54,11 @@ module _ (l t : List ℕ) (total : ℕ) (hash question : List ℕ) where
     judged-head h = rw (e, ne-eqb (firstBroken (textRules l (headOf l))) 0 h)
 
     module _ (h : firstBroken (textRules l (headOf l)) ≡ 0) where
-      pub judged-closed : isClaimed (allFields (headOf l) t) ≡ false → judged (saying Closes) question ≡ trailerJudged l t total hash question
+      pub judged-closed : isChecked (rangeOf (headOf l)) (allFields (headOf l) t) ≡ false → judged (saying Closes) question ≡ trailerJudged l t total hash question
       unfolding trailerJudged endJudged
       judged-closed k = rw (e, h, k)
 
-      pub judged-claimed : isClaimed (allFields (headOf l) t) ≡ true
+      pub judged-claimed : isChecked (rangeOf (headOf l)) (allFields (headOf l) t) ≡ true
           → answeredAfter l t total hash question ≡ trailerJudged l t total hash question
       unfolding trailerJudged endJudged answeredAfter
       judged-claimed k = rw (e, h, k)

@@ -9,8 +9,8 @@ use borrow.Author.Tests.{ne-eqb, leb-true, eqb-true}
 use lib.Dec.{eqb, leb}
 use lib.ListN.{length, length-append, length-drop}
 use Rattle.octets.specs.Choice.{pick}
-use Rattle.stream.specs.Ends.{isClaimed, endsIn, endFault, endString}
-use Rattle.stream.specs.Head.{headOf, textRules}
+use Rattle.stream.specs.Ends.{isChecked, endsIn, endFault, endString}
+use Rattle.stream.specs.Head.{headOf, rangeOf, textRules}
 use Rattle.stream.specs.Lines.{Field}
 use Rattle.stream.specs.Rule.{firstBroken}
 use Rattle.stream.specs.Trailer.{isTrailer}
@@ -48,7 +48,7 @@ module _ (l : List ℕ) (good : firstBroken (textRules l (headOf l)) ≡ 0) (fs 
 
   kept-end : Kept q (endJudged (length l) (headOf l) fs total hash q)
   unfolding endJudged
-  kept-end = kept-pick q (isClaimed fs) _ _ (λ t. kept-fault (endFault (headOf l) fs total hash) refl) (record { same = refl; within = tt })
+  kept-end = kept-pick q (isChecked (rangeOf (headOf l)) fs) _ _ (λ t. kept-fault (endFault (headOf l) fs total hash) refl) (record { same = refl; within = tt })
 
 pub judgement-kept : (l t : List ℕ) (total : ℕ) (hash q : List ℕ) → Kept q (trailerJudged l t total hash q)
 unfolding trailerJudged

@@ -1,4 +1,5 @@
--- The judgement of a trailer: its text (paper 01, "Blocks"), and the end of the show that it and the head claim (request #101). Assumes nothing.
+-- The judgement of a trailer: its text (paper 01, "Blocks"), and the end of the show that it and the head claim (request #101), which of a part answer
+-- is not checked (request #104). Assumes nothing.
 use mathlib.Core.List.{List, _++_}
 use Prim.Native.Nat.{ℕ}
 use lib.Dec.{eqb, leb}
@@ -6,8 +7,8 @@ use lib.ListN.{length, drop, replicate}
 use Rattle.octets.specs.Choice.{pick}
 use Rattle.refusals.specs.Refusals.{placed, plain}
 use Rattle.refusals.specs.declared.Refusal.{Refusal}
-use Rattle.stream.specs.Ends.{Ends, allFields, isClaimed, endsIn, endSignature, endFault, endString}
-use Rattle.stream.specs.Head.{Head, headOf, textRules}
+use Rattle.stream.specs.Ends.{Ends, allFields, isChecked, endsIn, endSignature, endFault, endString}
+use Rattle.stream.specs.Head.{Head, headOf, rangeOf, textRules}
 use Rattle.stream.specs.Lines.{Field}
 use Rattle.stream.specs.Places.{trailerPlace}
 use Rattle.stream.specs.Rule.{firstBroken}
@@ -47,7 +48,7 @@ endAnswered most h e fault question =
 
 unfoldable pub endJudged : ℕ → Head → List Field → ℕ → List ℕ → List ℕ → Judgement
 endJudged most h fs total hash question =
-    pick (isClaimed fs) (endAnswered most h (endsIn fs) (endFault h fs total hash) question) (judged (saying Closes) question)
+    pick (isChecked (rangeOf h) fs) (endAnswered most h (endsIn fs) (endFault h fs total hash) question) (judged (saying Closes) question)
 
 -- The trailer t, after the head l and a body of `total` bytes with the SHA-256 `hash`. A text that is no good head comes only with a state that no
 -- stream leads to; then the end is refused.

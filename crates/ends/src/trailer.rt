@@ -2,15 +2,18 @@
 use crate::asking;
 use crate::faults;
 use head::HeadRead;
+use ranges::Extent;
 use refusals::Refusal;
 ghost use mathlib.Core.Path.{_≡_};
-ghost use Rattle.end_fields.specs.Found.{AreLines};
+ghost use Rattle.end_fields.specs.Found.{AreLines, bothIn};
 ghost use Rattle.head.specs.Reading.{Reads};
+ghost use Rattle.ranges.specs.Extent.{rangeIn};
+ghost use Rattle.stream.specs.Ends.{isChecked};
 ghost use Rattle.ends.specs.Judgement.{judged, saying, trailerJudged};
 ghost use Rattle.ends.specs.Steps.{answeredAfter};
 ghost use Rattle.ends.specs.declared.trailer.EndAnswer.the-variants.{Refused};
 
-// The stream is closed, with nothing claimed. Or refused. Or complete if a signature is good, of the string whose `length` bytes were written.
+// The stream is closed, with nothing to check. Or refused. Or complete if a signature is good, of the string whose `length` bytes were written.
 pub enum EndAnswer {
     Closes,
     Refused(Refusal),
@@ -42,13 +45,28 @@ pub fn judge<'a>(
     if read.fault != 0 {
         return refused(refusals::plain(13));
     }
-    if !end_fields::is_claimed(head, read.fields, trailer) {
+    if !is_checked(head, read, trailer) {
         return EndJudged {
             answer: EndAnswer::Closes,
             signature: [0; 64],
         };
     }
     answer(head, read, trailer, total, hash, question)
+}
+
+// Whether there is an end to check: of a part answer nothing is checked, whatever its fields claim (request #104).
+fn is_checked<'a>(text: &'a [u8], head: HeadRead, trailer: &'a [u8]) -> bool
+    ensures { λ r. ⌜ (AreLines (now (trailer .entry)) → r ≡ isChecked (rangeIn (head .extent)) (bothIn (now (text .entry)) (head .fields) (now (trailer .entry)))) ⌝ }
+{
+    let extent = head.extent;
+    match extent {
+        Extent::Whole => end_fields::is_claimed(text, head.fields, trailer),
+        Extent::Part {
+            first: _,
+            last: _,
+            total: _,
+        } => false,
+    }
 }
 
 fn refused(why: Refusal) -> EndJudged

@@ -4,9 +4,10 @@ use mathlib.Core.List.{List, [], _∷_, _++_, append-assoc}
 use mathlib.Core.Path.{_≡_, refl, sym, _∙_}
 use Prim.Native.Nat.{ℕ, zero, suc, _+_, _-_, _*_, _/_, _%_, _≤_, _<_}
 use native.Mathlib.Omega.{arith}
-use borrow.Author.Tests.{eqb-true}
+use borrow.Author.Tests.{eqb-true, lt-ltb}
 use lib.Dec.{eqb}
 use lib.ListN.{length, take, drop, getD, length-append}
+use lib.Pow.{areBytes}
 use lib.Seq.{drop-at, take-append-le}
 use Rattle.base64.specs.Base64.{alphabet, letterOf, textOf}
 use Rattle.stream.specs.Bytes.{all, same, isHex}
@@ -42,6 +43,10 @@ unfolding all
 all-at p [] i d h k = k
 all-at p (b ∷ l) zero d h k = left-holds (p b) (all p l) h
 all-at p (b ∷ l) (suc i) d h k = all-at p l i d (right-holds (p b) (all p l) h) k
+
+pub below-bytes : (l : List ℕ) → ((i : ℕ) → getD l i 0 < 256) → areBytes l ≡ true
+below-bytes [] h = refl
+below-bytes (x ∷ l) h = rw (lt-ltb x 256 (h 0)) (below-bytes l (λ i. h (suc i)))
 
 -- ---- digits and letters
 

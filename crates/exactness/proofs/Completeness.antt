@@ -14,7 +14,7 @@ use Rattle.stream.specs.Terms.{Terms}
 use Rattle.exactness.specs.Beginning.{Beginning, opening, onward, written, headIn, announces, body}
 use Rattle.exactness.specs.Good.{Good, GoodTrailer, claims, GoodEnd}
 use Rattle.exactness.specs.ShowEvents.{showEvents}
-use Rattle.exactness.specs.Shows.{WholeShow, bodyOf, streamOf, Honest, yesesOf, beginningOf}
+use Rattle.exactness.specs.Shows.{Sending, bodyOf, streamOf, Honest, yesesOf, beginningOf}
 use Rattle.exactness.specs.Telling.{headTells, logOf, endLog, wholeLog, wholeYeses, released}
 use Rattle.exactness.proofs.Forward.{reading-whole}
 use Rattle.exactness.proofs.HonestShows.{show-written, show-body, show-yeses, show-good, show-end}
@@ -74,9 +74,10 @@ module _ (terms : Terms) where
 
   -- EVERY HONEST SHOW COMES OUT WHOLE. Write down a good head, any blocks, each of N bytes but the last of 1 to N, or none, at most
   -- 4,294,967,296 bytes in all, with each size in 1 to 8 hex digits of either case and any 64 bytes for each signature, and a good
-  -- trailer, where head and trailer claim no end or a good one: with a yes for the head, for each block and for a claimed end the reading
-  -- is the list of events computed from the show, and nothing else.
-  pub show-complete : (s : WholeShow) (r : List ℕ) (answers : List Bool) (told : Bool) → Honest terms s
+  -- trailer, where head and trailer claim no end or a good one; or, of a part of a show (request #104), the blocks that its range says, after the
+  -- hash before them: with a yes for the head, for each block and for a claimed end the reading is the list of events computed from what is
+  -- sent, and nothing else.
+  pub show-complete : (s : Sending) (r : List ℕ) (answers : List Bool) (told : Bool) → Honest terms s
       → plainReading terms (streamOf s ++ r) (replicate (yesesOf s) true ++ answers) told ≡ showEvents (terms .ring) s
   show-complete s r answers told h =
       let g = show-good terms s h in
@@ -84,5 +85,5 @@ module _ (terms : Terms) where
       (completeness (beginningOf s) (s .trailer) r answers told (g .0) (g .1) (h .trailer) (show-end terms s h))
 
   -- and the blocks of these events, joined, are the body that was written down.
-  pub show-released : (s : WholeShow) → Honest terms s → released (showEvents (terms .ring) s) ≡ bodyOf (s .chunks)
+  pub show-released : (s : Sending) → Honest terms s → released (showEvents (terms .ring) s) ≡ bodyOf (s .chunks)
   show-released s h = rw (← show-log terms s h) (released-body (beginningOf s) (s .trailer) ∙ show-body s)

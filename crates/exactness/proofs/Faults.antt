@@ -1,19 +1,20 @@
 -- A head, a line, a trailer or a claimed end is good where the reading finds no fault in it, and only there. Assumes nothing.
-use mathlib.Core.Bool.{Bool, true, false, _||_}
+use mathlib.Core.Bool.{Bool, true, false, _&&_, _||_, and-true, and-false}
 use mathlib.Core.List.{List, [], _∷_, _++_}
 use mathlib.Core.Logic.{_↔_}
-use mathlib.Core.Path.{_≡_, refl}
-use Prim.Native.Nat.{ℕ, zero, suc, _+_, _≤_}
+use mathlib.Core.Path.{_≡_, refl, sym, _∙_}
+use Prim.Native.Nat.{ℕ, zero, suc, _≤_}
 use native.Mathlib.Omega.{arith}
 use borrow.Author.Tests.{leb-true, le-leb, eqb-true, eq-eqb, not-true}
 use lib.Dec.{eqb, leb}
 use lib.ListN.{length}
 use Rattle.sha256.specs.Sha256.{sha256}
-use Rattle.stream.specs.Blocks.{isWholeLine, isChunkLine, carriesSignature, chunkSize, lineRules, lineFault, sameBool}
+use Rattle.stream.specs.Blocks.{isWholeLine, isChunkLine, carriesSignature, carriesHash, chunkSize, isHashDue, lineRules, lineFault, sameBool}
 use Rattle.stream.specs.Ends.{allFields, endRules, endFault}
 use Rattle.stream.specs.Head.{Head, endsHead, isWholeHead, headOf, textRules, callerRules, headFault}
 use Rattle.stream.specs.Limits.{headLimit, lineLimit, bodyLimit}
 use Rattle.stream.specs.Lines.{crlf, endsWith}
+use Rattle.stream.specs.Range.{Range, firstByte}
 use Rattle.stream.specs.Rule.{Rule, firstBroken}
 use Rattle.stream.specs.Terms.{Terms}
 use Rattle.stream.specs.Trailer.{endsTrailer, isWholeTrailer, isTrailer}
@@ -24,6 +25,7 @@ use Rattle.stream.proofs.RulesHold.{AllHold, rules-hold, head-rules-hold}
 use Rattle.stream.proofs.Truth.{left-holds, right-holds, or-true}
 use Rattle.exactness.specs.Good.{Kept, GoodHead, GoodLine, GoodFirstLine, GoodNextLine, GoodTrailer, claims, GoodClaim}
 use Rattle.exactness.proofs.Ends.{none-first, none-short}
+use Rattle.exactness.proofs.Ranges.{within-range, range-within}
 
 -- ---- lists of rules
 
@@ -83,11 +85,22 @@ faultless-head terms l h e =
 
 -- ---- a line
 
-pub first-faultless : (N : ℕ) (l : List ℕ) → GoodFirstLine N l → lineFault N false true 0 l ≡ 0
-unfolding lineFault lineRules
-first-faultless N l g =
-    kept-unbroken (lineRules N false true 0 l)
-    (g .line .text, (rw (g .unsigned), (rw (le-leb (chunkSize l) N (g .line .most)), (le-leb (0 + chunkSize l) bodyLimit (omega (arith, g .line .total)), tt))))
+-- on the first line a hash is due where the bytes begin after the first of all, and on no other
+due-first : (r : Range) → isHashDue r false ≡ leb 1 (firstByte r)
+unfolding isHashDue
+due-first r = and-true (leb 1 (firstByte r))
+
+due-never : (r : Range) → isHashDue r true ≡ false
+unfolding isHashDue
+due-never r = and-false (leb 1 (firstByte r))
+
+same-bool : (a b : Bool) → b ≡ a → sameBool a b ≡ true
+same-bool true b e = e
+same-bool false b e = rw e
+
+bool-same : (a b : Bool) → sameBool a b ≡ true → b ≡ a
+bool-same true b h = h
+bool-same false b h = not-true b h
 
 -- where the line announces a block, the block before is full
 full-test : (N : ℕ) (b l : List ℕ) → (1 ≤ chunkSize l → length b ≡ N) → (eqb (length b) N || eqb (chunkSize l) 0) ≡ true
@@ -97,43 +110,72 @@ full-test N b l h = by (chunkSize l) refl
     by zero e = or-true (eqb (length b) N)
     by (suc n) e = rw (eq-eqb (length b) N (h (omega arith)))
 
-pub next-faultless : (N sofar : ℕ) (b l : List ℕ) → GoodNextLine N sofar b l → lineFault N true (eqb (length b) N) sofar l ≡ 0
-unfolding lineFault lineRules
-next-faultless N sofar b l g =
-    kept-unbroken (lineRules N true (eqb (length b) N) sofar l)
-    (g .line .text, (g .signed, (rw (le-leb (chunkSize l) N (g .line .most)) (full-test N b l (g .full)), (le-leb _ bodyLimit (g .line .total), tt))))
-
 -- what a line without fault keeps
-faultless-line : (N : ℕ) (due full : Bool) (sofar : ℕ) (l : List ℕ) → NoneBelow isWholeLine l (length l) → lineFault N due full sofar l ≡ 0
-    → GoodLine N sofar l × (sameBool due (carriesSignature l) ≡ true) × (full || eqb (chunkSize l) 0 ≡ true)
-unfolding lineFault lineRules isWholeLine isChunkLine endsWith same
-faultless-line N due full sofar l h e =
-    let (r6, (r8, (r7, (r9, rest)))) = rules-hold (lineRules N due full sofar l) refl e in (
-      record {
-        ends = none-first (endsWith crlf) lineLimit l refl (left-holds (endsWith crlf l) _ r6) h;
-        short = none-short (endsWith crlf) lineLimit l (omega arith) h;
-        text = r6;
-        most = leb-true _ _ (left-holds (leb (chunkSize l) N) (full || eqb (chunkSize l) 0) r7);
-        total = leb-true _ _ r9;
-      },
-      r8,
-      right-holds (leb (chunkSize l) N) (full || eqb (chunkSize l) 0) r7,
-    )
+record LineKept (N : ℕ) (r : Range) (due full : Bool) (sofar : ℕ) (l : List ℕ) : Type 0 where
+  line : GoodLine N r sofar l
+  signs : carriesSignature l ≡ due
+  hashes : carriesHash l ≡ isHashDue r due
+  filled : full || eqb (chunkSize l) 0 ≡ true
 
-pub faultless-first : (N : ℕ) (l : List ℕ) → NoneBelow isWholeLine l (length l) → lineFault N false true 0 l ≡ 0 → GoodFirstLine N l
-faultless-first N l h e =
-    let k = faultless-line N false true 0 l h e in
-    record { line = k .0; unsigned = not-true (carriesSignature l) (k .1) }
+line-faultless : (N : ℕ) (r : Range) (due full : Bool) (sofar : ℕ) (l : List ℕ) → LineKept N r due full sofar l → lineFault N r due full sofar l ≡ 0
+unfolding lineFault lineRules
+line-faultless N r due full sofar l k =
+    let filled : leb (chunkSize l) N && (full || eqb (chunkSize l) 0) ≡ true = rw (le-leb (chunkSize l) N (k .line .most)) (k .filled) in
+    let carried = within-range r sofar (chunkSize l) (k .line .carried) in
+    let total = le-leb _ bodyLimit (k .line .total) in
+    kept-unbroken (lineRules N r due full sofar l)
+    (k .line .text, (same-bool due _ (k .signs), (same-bool _ _ (k .hashes), (filled, (carried, (total, tt))))))
+
+faultless-line : (N : ℕ) (r : Range) (due full : Bool) (sofar : ℕ) (l : List ℕ) → NoneBelow isWholeLine l (length l) → lineFault N r due full sofar l ≡ 0
+    → LineKept N r due full sofar l
+unfolding lineFault lineRules isWholeLine isChunkLine endsWith same
+faultless-line N r due full sofar l h e =
+    let (r6, (r8, (h8, (r7, (p7, (r9, rest)))))) = rules-hold (lineRules N r due full sofar l) refl e in
+    record {
+      line =
+          record {
+            ends = none-first (endsWith crlf) lineLimit l refl (left-holds (endsWith crlf l) _ r6) h;
+            short = none-short (endsWith crlf) lineLimit l (omega arith) h;
+            text = r6;
+            most = leb-true _ _ (left-holds (leb (chunkSize l) N) (full || eqb (chunkSize l) 0) r7);
+            carried = range-within r sofar (chunkSize l) p7;
+            total = leb-true _ _ r9;
+          };
+      signs = bool-same due _ r8;
+      hashes = bool-same (isHashDue r due) _ h8;
+      filled = right-holds (leb (chunkSize l) N) (full || eqb (chunkSize l) 0) r7;
+    }
+
+pub first-faultless : (N : ℕ) (r : Range) (l : List ℕ) → GoodFirstLine N r l → lineFault N r false true (firstByte r) l ≡ 0
+first-faultless N r l g =
+    line-faultless N r false true (firstByte r) l
+    (record { line = g .line; signs = g .unsigned; hashes = g .hashed ∙ sym (due-first r); filled = refl })
+
+pub next-faultless : (N : ℕ) (r : Range) (sofar : ℕ) (b l : List ℕ) → GoodNextLine N r sofar b l → lineFault N r true (eqb (length b) N) sofar l ≡ 0
+next-faultless N r sofar b l g =
+    line-faultless N r true (eqb (length b) N) sofar l
+    (record { line = g .line; signs = g .signed; hashes = g .unhashed ∙ sym (due-never r); filled = full-test N b l (g .full) })
+
+pub faultless-first : (N : ℕ) (r : Range) (l : List ℕ) → NoneBelow isWholeLine l (length l) → lineFault N r false true (firstByte r) l ≡ 0
+    → GoodFirstLine N r l
+faultless-first N r l h e =
+    let k = faultless-line N r false true (firstByte r) l h e in
+    record { line = k .line; unsigned = k .signs; hashed = k .hashes ∙ due-first r }
 
 test-full : (t : Bool) (n : ℕ) → (t || eqb n 0) ≡ true → 1 ≤ n → t ≡ true
 test-full true n w h = refl
 test-full false n w h = absurd (omega (arith, eqb-true n 0 w))
 
-pub faultless-next : (N sofar : ℕ) (b l : List ℕ) → NoneBelow isWholeLine l (length l) → lineFault N true (eqb (length b) N) sofar l ≡ 0
-    → GoodNextLine N sofar b l
-faultless-next N sofar b l h e =
-    let k = faultless-line N true (eqb (length b) N) sofar l h e in
-    record { line = k .0; signed = k .1; full = λ s. eqb-true (length b) N (test-full (eqb (length b) N) (chunkSize l) (k .2) s) }
+pub faultless-next : (N : ℕ) (r : Range) (sofar : ℕ) (b l : List ℕ) → NoneBelow isWholeLine l (length l)
+    → lineFault N r true (eqb (length b) N) sofar l ≡ 0 → GoodNextLine N r sofar b l
+faultless-next N r sofar b l h e =
+    let k = faultless-line N r true (eqb (length b) N) sofar l h e in
+    record {
+      line = k .line;
+      signed = k .signs;
+      unhashed = k .hashes ∙ due-never r;
+      full = λ s. eqb-true (length b) N (test-full (eqb (length b) N) (chunkSize l) (k .filled) s);
+    }
 
 -- ---- the trailer
 

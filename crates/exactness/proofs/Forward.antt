@@ -3,40 +3,91 @@
 use mathlib.Core.Bool.{Bool, true, false}
 use mathlib.Core.List.{List, [], _∷_, _++_, append-assoc}
 use mathlib.Core.Path.{_≡_, refl, sym, ap, _∙_}
-use Prim.Native.Nat.{ℕ, zero, suc, _+_, _≤_}
+use Prim.Native.Nat.{ℕ, zero, suc, _+_, _*_, _/_, _≤_}
+use native.Mathlib.Nat.{zero-div}
 use native.Mathlib.Omega.{arith}
 use lib.ListN.{length, replicate, length-append}
 use Rattle.sha256.specs.Sha256.{sha256}
-use Rattle.sections.specs.Reading.{question, message, last, Log, granted, final, answered, judged, readingAt, reading}
-use Rattle.stream.specs.Blocks.{chunkSize}
+use Rattle.sections.specs.Reading.{question, message, last, Log, ask, granted, final, answered, judged, readingAt, reading}
+use Rattle.stream.specs.Blocks.{chunkSize, lineHash}
 use Rattle.stream.specs.Ends.{allFields}
 use Rattle.stream.specs.Events.{Question, Release, block, LastWord, closed, complete}
-use Rattle.stream.specs.Head.{headOf}
+use Rattle.stream.specs.Head.{headOf, rangeOf, blockSize}
 use Rattle.stream.specs.Lines.{crlf}
-use Rattle.stream.specs.Stream.{Show, Past, after, Context, announced, Says, showOf, bodyWith, blockQuestion, endQuestion, judgeEnd, rules, plainReading}
+use Rattle.stream.specs.Range.{firstByte}
+use Rattle.stream.specs.Ring.{Ring}
+use Rattle.stream.specs.Stream.{Show, Past, startFrom, startOf, after, Context, announced, Says, showOf, blockOffset, bodyWith, releasedWith, blockQuestion, acceptBlock, endQuestion, judgeEnd, rules, plainReading}
 use Rattle.stream.specs.Terms.{Terms}
-use Rattle.exactness.specs.Beginning.{Beginning, onward, written, headIn, size, announces, blocks, body, hash, offset, questions}
-use Rattle.exactness.specs.Good.{Good, opens, goes-on, GoodTrailer, claims, GoodClaim, GoodEnd, unclaimed, well-claimed}
+use Rattle.exactness.specs.Beginning.{Beginning, opening, onward, written, headIn, size, start, announces, blocks, body, hashBefore, hash, offset, questions}
+use Rattle.exactness.specs.Good.{Announced, Good, opens, goes-on, GoodTrailer, claims, GoodClaim, GoodEnd, unclaimed, well-claimed}
 use Rattle.exactness.specs.Telling.{headAsks, headTells, blockAsks, endAsks, logOf, wholeLog, wholeYeses}
 use Rattle.exactness.proofs.Faults.{claim-faultless}
+use Rattle.exactness.proofs.Ranges.{head-aligned, starts-with-block}
 use Rattle.exactness.proofs.Steps.{onRest, head-step, first-step, block-step, trailer-step}
 
 -- ---- where the reading stands after a beginning
 
+-- the blocks of the show before the next one: those before the first byte that the answer carries, and those that came
+unfoldable pub blocksBefore : Beginning → ℕ
+blocksBefore (opening h l) = firstByte (rangeOf (headOf h)) / blockSize (headOf h)
+blocksBefore (onward w b l) = suc (blocksBefore w)
+
 abbrev pub pastOf : Beginning → Past
-pastOf w = record { blocks = blocks w; hash = hash w; body = body w }
+pastOf w = record { blocks = blocksBefore w; hash = hash w; body = body w }
+
+pub first-past : (ring : Ring) (h l : List ℕ) → startOf (showOf ring (headOf h)) l ≡ pastOf (opening h l)
+unfolding startOf startFrom showOf blocksBefore hash body
+first-past ring h l = by (firstByte (rangeOf (headOf h)))
+  where
+    by : (a : ℕ) → startFrom a (blockSize (headOf h)) (lineHash l) ≡ record { blocks = a / blockSize (headOf h); hash = hashBefore a l; body = [] }
+    by zero = rw (zero-div (blockSize (headOf h)))
+    by (suc a) = refl
 
 abbrev pub contextOf : Terms → Beginning → Context
 contextOf terms w = announced (showOf (terms .ring) (headIn w)) (pastOf w) (length (body w)) (announces w)
 
 -- where a block is to come, its offset is the number of the body's bytes before it
-pub offset-is : {terms : Terms} (w : Beginning) → Good terms w → 1 ≤ announces w → length (body w) ≡ offset w
+pub offset-is : {terms : Terms} (w : Beginning) → Good terms w → 1 ≤ announces w → start w + length (body w) ≡ offset w
 unfolding announces body blocks headIn
 offset-is w (opens g l) s = omega arith
 offset-is w (goes-on {w = v} {b = b} g a n) s =
-    let k : length (body v) ≡ offset v = offset-is v g (omega arith) in
+    let k : start v + length (body v) ≡ offset v = offset-is v g (omega arith) in
     let m : length b ≡ size v = n .full s in
     omega (arith, length-append (body v) b)
+
+-- and the reading counts it in blocks of the show
+past-offset : {terms : Terms} (w : Beginning) → Good terms w → blocksBefore w * size w ≡ offset w
+unfolding blocksBefore blocks headIn
+past-offset w (opens {h = h} g l) = omega (arith, starts-with-block (blockSize (headOf h)) (rangeOf (headOf h)) (head-aligned g))
+past-offset w (goes-on {w = v} g a n) = omega (arith, past-offset v g)
+
+module _ {terms : Terms} (w : Beginning) (g : Good terms w) where
+  abbrev showIn : Show
+  showIn = showOf (terms .ring) (headIn w)
+
+  pub block-offset : blockOffset showIn (pastOf w) ≡ offset w
+  unfolding showOf
+  block-offset = past-offset w g
+
+  -- the bytes of the body up to and with a block, counted both ways; and those that came
+  pub body-with : (b : List ℕ) → Announced w b → bodyWith showIn (pastOf w) b ≡ start w + length (body w ++ b)
+  body-with b a = omega (arith, block-offset, offset-is w g (omega arith), length-append (body w) b)
+
+  pub released-with : (b : List ℕ) → Announced w b → releasedWith showIn (pastOf w) b ≡ length (body w ++ b)
+  unfolding releasedWith showOf
+  released-with b a = omega (arith, body-with b a)
+
+  asks-block : (b l : List ℕ) → blockQuestion showIn (pastOf w) b l ≡ blockAsks (terms .ring) w b l
+  unfolding blockQuestion blockAsks showOf hash
+  asks-block b l = rw (past-offset w g)
+
+  -- what a good line after a block says
+  abbrev pub asksAfter : List ℕ → List ℕ → Says
+  asksAfter b l = ask (blockAsks (terms .ring) w b l) (granted (block (offset w) b) (contextOf terms (onward w b l)))
+
+  pub accepts-block : (b l : List ℕ) → Announced w b → acceptBlock showIn (pastOf w) b l ≡ asksAfter b l
+  unfolding acceptBlock headIn announces blocksBefore body hash
+  accepts-block b l a = rw (asks-block b l, released-with b a, block-offset)
 
 pub place-is : (w : Beginning) (b l : List ℕ) → length (written w) + length b + 2 + length l ≡ length (written (onward w b l))
 unfolding written
@@ -56,32 +107,29 @@ module _ (terms : Terms) where
       ≡ (length (written (onward w b l)), question (blockAsks (terms .ring) w b l))
       ∷ answered (rules terms) (granted (block (offset w) b) (contextOf terms (onward w b l))) (length (written (onward w b l))) answers
       (onRest terms (length (written (onward w b l))) r told)
-  unfolding headIn announces blocks body hash blockQuestion blockAsks showOf
+  unfolding headIn announces blocksBefore body hash showOf
   onward-step w b l r answers told (goes-on g a n) = by (announces w) refl (a .just)
     where
       s : Show
       s = showOf (terms .ring) (headIn w)
 
-      k : 1 ≤ announces w → length (body w ++ b) ≡ bodyWith s (pastOf w) b
-      k x = length-append (body w) b ∙ ap (λ (o : ℕ). o + length b) (offset-is w g x)
-
       by : (m : ℕ) → announces w ≡ m → length b ≡ m
           → readingAt (rules terms) (announced s (pastOf w) (length (body w)) m) (length (written w)) (b ++ (crlf ++ (l ++ r))) answers told
-          ≡ (length (written (onward w b l)), question (blockQuestion s (pastOf w) b l))
+          ≡ (length (written (onward w b l)), question (blockAsks (terms .ring) w b l))
           ∷ answered (rules terms) (granted (block (offset w) b) (announced s (after (pastOf w) b) (length (body w ++ b)) (chunkSize l)))
           (length (written (onward w b l))) answers (onRest terms (length (written (onward w b l))) r told)
       by zero z f = absurd (omega arith)
       by (suc m) z f =
-          rw (k (omega arith), ← place-is w b l)
-          (block-step terms s (pastOf w) (suc m) (length (written w)) b l r answers told (a .some) f (rw (k (omega arith)) at n))
+          rw (← place-is w b l, ← asks-block w g b l, ← released-with w g b a, ← block-offset w g)
+          (block-step terms s (pastOf w) (suc m) (length (written w)) b l r answers told (a .some) f (rw (← body-with w g b a) at n))
 
   -- With a yes to each question of a good beginning the reading gives its events, and then reads what comes after it.
   pub reading-good : (w : Beginning) (r : List ℕ) (answers : List Bool) (told : Bool) → Good terms w
       → plainReading terms (written w ++ r) (replicate (questions w) true ++ answers) told
       ≡ logOf (terms .ring) w ++ readingAt (rules terms) (contextOf terms w) (length (written w)) r answers told
-  unfolding plainReading reading written headIn announces blocks body hash logOf showOf
+  unfolding plainReading reading written headIn announces blocks body logOf showOf
   reading-good w r answers told (opens {h = h} {l = l} g k) =
-      rw (append-assoc h l r, length-append h l)
+      rw (append-assoc h l r, length-append h l, ← first-past (terms .ring) h l)
       (head-step terms h (l ++ r) (true ∷ answers) told g
       ∙ ap (λ (x : Log Question Release LastWord). (length h, question (headAsks (terms .ring) (headOf h))) ∷ (length h, message (headTells (headOf h))) ∷ x)
       (first-step terms (showOf (terms .ring) (headOf h)) (length h) l r answers told k))
@@ -127,7 +175,7 @@ module _ (terms : Terms) where
       → claims (headIn w) t ≡ false
       → plainReading terms (written w ++ t ++ r) (replicate (questions w) true ++ answers) told
       ≡ logOf (terms .ring) w ++ (length (written w ++ t), last (closed (length (body w)))) ∷ []
-  unfolding judgeEnd
+  unfolding judgeEnd showOf
   reading-closed w t r answers told g z k c = reading-ended w t r answers told g z k ∙ rw (judgeEnd, c)
 
   -- where the claim is good, it gives the question about it, and a yes *complete*

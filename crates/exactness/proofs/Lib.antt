@@ -1,4 +1,5 @@
 pub mod Ends
+pub mod Ranges
 pub mod Wholes
 pub mod Faults
 pub mod Steps
@@ -18,6 +19,7 @@ pub mod ChunkLines
 pub mod HonestShows
 pub mod ShowLogs
 pub mod Completeness
+pub mod Parts
 pub mod MessageLines
 pub mod OneValue
 pub mod AskedFor

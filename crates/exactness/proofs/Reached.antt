@@ -2,27 +2,28 @@
 -- no section is whole, the stream is unfinished. Assumes nothing.
 use mathlib.Core.Bool.{true, false}
 use mathlib.Core.List.{List, [], _++_}
-use mathlib.Core.Path.{_≡_, refl, sym, ap, _∙_}
-use Prim.Native.Nat.{ℕ, zero, suc, _+_}
+use mathlib.Core.Path.{_≡_, refl, ap}
+use Prim.Native.Nat.{ℕ, zero, suc}
 use native.Mathlib.Omega.{arith}
-use lib.ListN.{length, length-append}
+use lib.ListN.{length}
 use Rattle.sections.specs.Reading.{question, message, last, go, tell, ask, stop, granted, final}
 use Rattle.sections.proofs.Cuts.{NoneBelow}
 use Rattle.stream.specs.Blocks.{isWholeLine, chunkSize, lineFault}
 use Rattle.stream.specs.Bytes.{same}
 use Rattle.stream.specs.Events.{placeOf}
-use Rattle.stream.specs.Head.{endsHead, isWholeHead, headOf, blockSize, headFault}
+use Rattle.stream.specs.Head.{endsHead, isWholeHead, headOf, rangeOf, blockSize, headFault}
 use Rattle.stream.specs.Limits.{headLimit, lineLimit}
 use Rattle.stream.specs.Lines.{crlf, endsWith}
 use Rattle.stream.specs.Places.{headPlace, linePlace}
-use Rattle.stream.specs.Stream.{Context, head, firstLine, dataEnd, nextLine, Says, unlessBroken, announced, showOf, headQuestion, acceptHead, judgeHead, judgeFirstLine, bodyWith, blockQuestion, acceptBlock, judgeNextLine}
+use Rattle.stream.specs.Range.{firstByte}
+use Rattle.stream.specs.Stream.{Past, Context, head, firstLine, dataEnd, nextLine, Says, unlessBroken, announced, showOf, headQuestion, acceptHead, judgeHead, judgeFirstLine, bodyWith, judgeNextLine}
 use Rattle.stream.specs.Terms.{Terms}
-use Rattle.exactness.specs.Beginning.{Beginning, opening, onward, written, headIn, size, announces, blocks, body, hash, questions}
+use Rattle.exactness.specs.Beginning.{Beginning, opening, onward, written, headIn, size, range, announces, blocks, body, questions}
 use Rattle.exactness.specs.Good.{GoodHead, Announced, Good, opens, goes-on}
 use Rattle.exactness.specs.Refusals.{Whole, Refuses, head-refused, first-line-refused, next-line-refused}
-use Rattle.exactness.specs.Telling.{headAsks, headTells, blockAsks, Decides, head-asked, head-told, block-asked, block-told, rule-broken}
+use Rattle.exactness.specs.Telling.{headAsks, headTells, Decides, head-asked, head-told, block-asked, block-told, rule-broken}
 use Rattle.exactness.proofs.Faults.{faultless-head, faultless-first, faultless-next}
-use Rattle.exactness.proofs.Forward.{pastOf, contextOf, offset-is}
+use Rattle.exactness.proofs.Forward.{pastOf, contextOf, first-past, body-with, asksAfter, accepts-block}
 use Rattle.exactness.proofs.WentWrong.{head-wrong, line-wrong}
 use Rattle.exactness.proofs.Wholes.{cut-whole}
 
@@ -65,24 +66,22 @@ module _ (terms : Terms) where
 
   pub first-due : (h f : List ℕ) → GoodHead terms h → isWholeLine f ≡ true → NoneBelow isWholeLine f (length f)
       → SaysDue (h ++ f) 1 (judgeFirstLine (showOf (terms .ring) (headOf h)) f)
-  unfolding judgeFirstLine showOf written blocks headIn announces body hash lineFault
+  unfolding judgeFirstLine showOf written blocks headIn announces body lineFault
   first-due h f g t n =
-      unless-due (h ++ f) 1 (lineFault (blockSize (headOf h)) false true 0 f) (linePlace f) _
-      (λ e. at-line {w = opening h f} (opens g (faultless-first (blockSize (headOf h)) f n e)) refl)
+      let r = rangeOf (headOf h) in
+      unless-due (h ++ f) 1 (lineFault (blockSize (headOf h)) r false true (firstByte r) f) (linePlace f) _
+      (λ e. at-line {w = opening h f} (opens g (faultless-first (blockSize (headOf h)) r f n e))
+      (ap (λ (p : Past). announced (showOf (terms .ring) (headOf h)) p 0 (chunkSize f)) (first-past (terms .ring) h f)))
       (λ k e. first-line-refused g (line-whole f t n) e (line-wrong f (suc k)))
-
-  -- the bytes of the body up to and with a block, counted both ways
-  pub body-with : (w : Beginning) (b : List ℕ) → Good terms w → Announced w b → bodyWith (showOf (terms .ring) (headIn w)) (pastOf w) b ≡ length (body w ++ b)
-  unfolding showOf
-  body-with w b g a = sym (length-append (body w) b ∙ ap (λ (o : ℕ). o + length b) (offset-is w g (omega arith)))
 
   pub next-due : (w : Beginning) (b f : List ℕ) → Good terms w → Announced w b → isWholeLine f ≡ true → NoneBelow isWholeLine f (length f)
       → SaysDue (written (onward w b f)) (questions w) (judgeNextLine (showOf (terms .ring) (headIn w)) (pastOf w) b f)
-  unfolding judgeNextLine acceptBlock blockQuestion showOf blockAsks headIn announces blocks body hash lineFault
+  unfolding judgeNextLine showOf blocks lineFault
   next-due w b f g a t n =
-      let k = body-with w b g a in
-      unless-due (written (onward w b f)) (questions w) _ _ _
+      let k = body-with w g b a in
+      rw (accepts-block w g b f a)
+      (unless-due (written (onward w b f)) (questions w) _ _ (asksAfter w g b f)
       (λ e.
-      let good : Good terms (onward w b f) = goes-on g a (rw k at (faultless-next (size w) (bodyWith (showOf (terms .ring) (headIn w)) (pastOf w) b) b f n e)) in
-      (block-asked good, block-told good, at-line good (ap (λ (m : ℕ). announced (showOf (terms .ring) (headIn w)) (pastOf (onward w b f)) m (chunkSize f)) k)))
-      (λ m e. next-line-refused g a (line-whole f t n) (rw k at e) (line-wrong f (suc m)))
+      let good : Good terms (onward w b f) = goes-on g a (rw k at (faultless-next (size w) (range w) (bodyWith (showOf (terms .ring) (headIn w)) (pastOf w) b) b f n e)) in
+      (block-asked good, block-told good, at-line good refl))
+      (λ m e. next-line-refused g a (line-whole f t n) (rw k at e) (line-wrong f (suc m))))

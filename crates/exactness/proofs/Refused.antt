@@ -19,8 +19,9 @@ use Rattle.stream.specs.Head.{endsHead, isWholeHead, headOf, headFault}
 use Rattle.stream.specs.Limits.{headLimit, lineLimit}
 use Rattle.stream.specs.Lines.{crlf, endsWith}
 use Rattle.stream.specs.Places.{headPlace, linePlace, dataEndPlace, trailerPlace}
+use Rattle.stream.specs.Range.{firstByte}
 use Rattle.stream.specs.Rule.{firstBroken}
-use Rattle.stream.specs.Stream.{Show, Past, head, firstLine, dataEnd, nextLine, trailer, isWhole, showOf, bodyWith, judgeHead, judgeFirstLine, judgeDataEnd, judgeNextLine, judgeEnd, judgeTrailer, judge, rules, plainReading}
+use Rattle.stream.specs.Stream.{Show, range, Past, head, firstLine, dataEnd, nextLine, trailer, isWhole, showOf, bodyWith, judgeHead, judgeFirstLine, judgeDataEnd, judgeNextLine, judgeEnd, judgeTrailer, judge, rules, plainReading}
 use Rattle.stream.specs.Terms.{Terms}
 use Rattle.stream.specs.Trailer.{endsTrailer, isWholeTrailer, isTrailer}
 use Rattle.stream.proofs.Truth.{same-equal}
@@ -28,9 +29,8 @@ use Rattle.exactness.specs.Beginning.{Beginning, onward, written, headIn
 use Rattle.exactness.specs.Good.{Good, GoodTrailer, claims}
 use Rattle.exactness.specs.Refusals.{Whole, Refuses, head-refused, first-line-refused, next-line-refused, data-end-refused, trailer-refused, end-refused}
 use Rattle.exactness.specs.Telling.{StreamEvent, Stands, logOf}
-use Rattle.exactness.proofs.Forward.{pastOf, place-is, reading-ended}
+use Rattle.exactness.proofs.Forward.{pastOf, body-with, place-is, reading-ended}
 use Rattle.exactness.proofs.Judged.{onward-rest, no-place-left}
-use Rattle.exactness.proofs.Reached.{body-with}
 use Rattle.exactness.proofs.Stops.{Telling, headLog, stop-step, head-then, line-then, block-then, end-then}
 use Rattle.exactness.proofs.WentWrong.{head-only, line-only, data-end-only, trailer-only}
 use Rattle.exactness.proofs.Wholes.{whole-true, whole-none, whole-some}
@@ -50,7 +50,7 @@ module _ (terms : Terms) where
       (whole-none endsHead headLimit h k) (rw e)
 
   first-stop : (s : Show) (at : ℕ) (l r : List ℕ) (answers : List Bool) (told : Bool) (n : ℕ) → Whole (endsWith crlf) lineLimit l
-      → lineFault (s .size) false true 0 l ≡ suc n
+      → lineFault (s .size) (range s) false true (firstByte (range s)) l ≡ suc n
       → readingAt (rules terms) (firstLine s) at (l ++ r) answers told ≡ (at + length l, last (refused (suc n) (placeOf (suc n) (linePlace l)))) ∷ []
   unfolding isWhole isWholeLine judge judgeFirstLine endsWith same
   first-stop s at l r answers told n k e =
@@ -58,7 +58,7 @@ module _ (terms : Terms) where
       (whole-true (endsWith crlf) lineLimit l k) (whole-none (endsWith crlf) lineLimit l k) (rw e)
 
   next-stop : (s : Show) (p : Past) (b : List ℕ) (at : ℕ) (l r : List ℕ) (answers : List Bool) (told : Bool) (n : ℕ) → Whole (endsWith crlf) lineLimit l
-      → lineFault (s .size) true (eqb (length b) (s .size)) (bodyWith s p b) l ≡ suc n
+      → lineFault (s .size) (range s) true (eqb (length b) (s .size)) (bodyWith s p b) l ≡ suc n
       → readingAt (rules terms) (nextLine s p b) at (l ++ r) answers told ≡ (at + length l, last (refused (suc n) (placeOf (suc n) (linePlace l)))) ∷ []
   unfolding isWhole isWholeLine judge judgeNextLine endsWith same
   next-stop s p b at l r answers told n k e =
@@ -113,7 +113,7 @@ module _ (terms : Terms) where
       rw (onward-rest w b l rest, line-only l (suc m) place x)
       (stands-last _ (logOf (terms .ring) w) (length (written (onward w b l))) (length (written w) + length b + 2 + length l)
       (end-then terms w b (l ++ rest) others told _ g a
-      (next-stop (showOf (terms .ring) (headIn w)) (pastOf w) b (length (written w) + length b + 2) l rest others told m k (rw (body-with terms w b g a) e)))
+      (next-stop (showOf (terms .ring) (headIn w)) (pastOf w) b (length (written w) + length b + 2) l rest others told m k (rw (body-with w g b a) e)))
       (place-is w b l))
   refuses-stands front rest yeses others told n place (data-end-refused {w = w} {b = b} {e = f} g a l o x) =
       rw (append-assoc (written w ++ b) f rest, data-end-only f place x)

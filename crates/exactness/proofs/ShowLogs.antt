@@ -6,19 +6,19 @@ use Prim.Native.Nat.{ℕ}
 use lib.ListN.{length, length-append}
 use Rattle.sections.specs.Reading.{Log}
 use Rattle.stream.specs.Events.{Question, Release, block, LastWord}
-use Rattle.stream.specs.Blocks.{offsetOf}
-use Rattle.stream.specs.Head.{Head, headOf, blockSize}
+use Rattle.stream.specs.Head.{Head, headOf, rangeOf}
+use Rattle.stream.specs.Range.{firstByte}
 use Rattle.stream.specs.Terms.{Terms}
 use Rattle.exactness.specs.Beginning.{Beginning, opening, onward, written, headIn, blocks, hash, offset}
 use Rattle.exactness.specs.Good.{claims}
-use Rattle.exactness.specs.ShowEvents.{chunkAsks, endEvents, chunkEvents, showEvents}
-use Rattle.exactness.specs.Shows.{Chunk, WholeShow, chunkLine, signed, Writes, HonestChunks, Honest, claimsEnd, nextDigits, continued, beginningOf}
+use Rattle.exactness.specs.ShowEvents.{chunkOffset, chunkAsks, endEvents, chunkEvents, showEvents}
+use Rattle.exactness.specs.Shows.{Chunk, Sending, chunkLine, signed, hashed, Writes, HonestChunks, Honest, claimsEnd, nextDigits, continued, beginningOf}
 use Rattle.exactness.specs.Telling.{blockAsks, logOf, endLog, wholeLog}
-use Rattle.exactness.proofs.ChunkLines.{line-signature}
+use Rattle.exactness.proofs.ChunkLines.{line-signature, first-hash}
 use Rattle.exactness.proofs.Forward.{place-is}
 use Rattle.exactness.proofs.HonestShows.{next-writes, show-body, show-head}
 
-module _ (terms : Terms) (s : WholeShow) where
+module _ (terms : Terms) (s : Sending) where
   abbrev ending : Beginning → Log Question Release LastWord
   ending w = endEvents (terms .ring) s (length (written w ++ s .trailer)) (claimsEnd s)
 
@@ -32,8 +32,8 @@ module _ (terms : Terms) (s : WholeShow) where
   asks-same w c cs e h z =
       rw (line-signature (c .signature) (next-writes cs (s .zeros) (h .1) z) (h .0 .bytes) (h .0 .sixty-four), e)
 
-  offset-same : (w : Beginning) → headIn w ≡ headOf (s .head) → offset w ≡ offsetOf (blocks w) (blockSize (headOf (s .head)))
-  offset-same w e = ap (λ (h : Head). offsetOf (blocks w) (blockSize h)) e
+  offset-same : (w : Beginning) → headIn w ≡ headOf (s .head) → offset w ≡ chunkOffset (headOf (s .head)) (blocks w)
+  offset-same w e = ap (λ (h : Head). chunkOffset h (blocks w)) e
 
   continued-log : (w : Beginning) (cs : List Chunk) → headIn w ≡ headOf (s .head) → HonestChunks cs → Writes (s .zeros) 0
       → logOf (terms .ring) (continued w cs (s .zeros)) ++ ending (continued w cs (s .zeros))
@@ -56,5 +56,7 @@ module _ (terms : Terms) (s : WholeShow) where
   pub show-log : Honest terms s → wholeLog (terms .ring) (beginningOf s) (s .trailer) ≡ showEvents (terms .ring) s
   unfolding showEvents headIn blocks hash logOf written
   show-log h =
-      let l : List ℕ = chunkLine (nextDigits (s .chunks) (s .zeros)) [] in
-      rw (show-ending, ← length-append (s .head) l) (continued-log (opening (s .head) l) (s .chunks) refl (h .chunks) (h .zeros))
+      let l : List ℕ = chunkLine (nextDigits (s .chunks) (s .zeros)) (hashed (s .before)) in
+      let v = next-writes (s .chunks) (s .zeros) (h .chunks) (h .zeros) in
+      let e = first-hash (firstByte (rangeOf (headOf (s .head)))) (s .before) v (h .before) in
+      rw (show-ending, ← length-append (s .head) l) (rw e at (continued-log (opening (s .head) l) (s .chunks) refl (h .chunks) (h .zeros)))

@@ -21,7 +21,7 @@ use Rattle.stream.specs.Events.{Question, Release, block, LastWord}
 use Rattle.stream.specs.Head.{endsHead, isWholeHead, headOf}
 use Rattle.stream.specs.Limits.{headLimit, lineLimit}
 use Rattle.stream.specs.Lines.{crlf, endsWith}
-use Rattle.stream.specs.Stream.{Show, Past, nothing, Context, head, firstLine, blockData, dataEnd, nextLine, trailer, isWhole, announced, after, showOf, headQuestion, acceptHead, judgeHead, judgeFirstLine, judgeDataEnd, blockOffset, bodyWith, blockQuestion, acceptBlock, judgeNextLine, judgeEnd, judgeTrailer, judge, rules}
+use Rattle.stream.specs.Stream.{Show, range, Past, startOf, Context, head, firstLine, blockData, dataEnd, nextLine, trailer, isWhole, announced, after, showOf, headQuestion, acceptHead, judgeHead, judgeFirstLine, judgeDataEnd, blockOffset, bodyWith, releasedWith, blockQuestion, acceptBlock, judgeNextLine, judgeEnd, judgeTrailer, judge, rules}
 use Rattle.stream.specs.Terms.{Terms}
 use Rattle.stream.specs.Trailer.{endsTrailer, isWholeTrailer}
 use Rattle.exactness.specs.Good.{GoodHead, GoodFirstLine, GoodNextLine, GoodTrailer}
@@ -61,15 +61,15 @@ module _ (terms : Terms) where
       ∙ rw (head-faultless terms h g, zero-add (length h))
 
   -- a good first line announces a block, or the trailer
-  pub first-step : (s : Show) (at : ℕ) (l r : List ℕ) (answers : List Bool) (told : Bool) → GoodFirstLine (s .size) l
+  pub first-step : (s : Show) (at : ℕ) (l r : List ℕ) (answers : List Bool) (told : Bool) → GoodFirstLine (s .size) (range s) l
       → readingAt (rules terms) (firstLine s) at (l ++ r) answers told
-      ≡ readingAt (rules terms) (announced s nothing 0 (chunkSize l)) (at + length l) r answers told
+      ≡ readingAt (rules terms) (announced s (startOf s l) 0 (chunkSize l)) (at + length l) r answers told
   unfolding isWhole isWholeLine judge judgeFirstLine endsWith same
   first-step s at l r answers told g =
       one-section (firstLine s) at l r answers told (some-byte (endsWith crlf) l refl (g .line .ends .there))
       (first-whole (endsWith crlf) lineLimit l (g .line .ends))
       (first-none (endsWith crlf) lineLimit l (g .line .ends) (g .line .short))
-      ∙ rw (first-faultless (s .size) l g)
+      ∙ rw (first-faultless (s .size) (range s) l g)
 
   -- a block's data
   pub data-step : (s : Show) (p : Past) (n at : ℕ) (b r : List ℕ) (answers : List Bool) (told : Bool) → 1 ≤ length b → length b ≡ n
@@ -94,24 +94,24 @@ module _ (terms : Terms) where
           lt-leb 2 (length (take m crlf)) (omega arith)
 
   -- the line after it
-  next-step : (s : Show) (p : Past) (at : ℕ) (b l r : List ℕ) (answers : List Bool) (told : Bool) → GoodNextLine (s .size) (bodyWith s p b) b l
+  next-step : (s : Show) (p : Past) (at : ℕ) (b l r : List ℕ) (answers : List Bool) (told : Bool) → GoodNextLine (s .size) (range s) (bodyWith s p b) b l
       → readingAt (rules terms) (nextLine s p b) at (l ++ r) answers told
       ≡ (at + length l, question (blockQuestion s p b l))
-      ∷ answered (rules terms) (granted (block (blockOffset s p) b) (announced s (after p b) (bodyWith s p b) (chunkSize l))) (at + length l) answers
+      ∷ answered (rules terms) (granted (block (blockOffset s p) b) (announced s (after p b) (releasedWith s p b) (chunkSize l))) (at + length l) answers
       (onRest (at + length l) r told)
   unfolding isWhole isWholeLine judge judgeNextLine acceptBlock endsWith same
   next-step s p at b l r answers told g =
       one-section (nextLine s p b) at l r answers told (some-byte (endsWith crlf) l refl (g .line .ends .there))
       (first-whole (endsWith crlf) lineLimit l (g .line .ends))
       (first-none (endsWith crlf) lineLimit l (g .line .ends) (g .line .short))
-      ∙ rw (next-faultless (s .size) (bodyWith s p b) b l g)
+      ∙ rw (next-faultless (s .size) (range s) (bodyWith s p b) b l g)
 
   -- a block, its CR LF and a good line after it give the block's question, at that line's last byte
   pub block-step : (s : Show) (p : Past) (n at : ℕ) (b l r : List ℕ) (answers : List Bool) (told : Bool) → 1 ≤ length b → length b ≡ n
-      → GoodNextLine (s .size) (bodyWith s p b) b l
+      → GoodNextLine (s .size) (range s) (bodyWith s p b) b l
       → readingAt (rules terms) (blockData s p n) at (b ++ (crlf ++ (l ++ r))) answers told
       ≡ (at + length b + 2 + length l, question (blockQuestion s p b l))
-      ∷ answered (rules terms) (granted (block (blockOffset s p) b) (announced s (after p b) (bodyWith s p b) (chunkSize l)))
+      ∷ answered (rules terms) (granted (block (blockOffset s p) b) (announced s (after p b) (releasedWith s p b) (chunkSize l)))
       (at + length b + 2 + length l) answers (onRest (at + length b + 2 + length l) r told)
   block-step s p n at b l r answers told i e g =
       data-step s p n at b (crlf ++ (l ++ r)) answers told i e

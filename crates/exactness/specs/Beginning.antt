@@ -3,10 +3,11 @@
 -- to; which of them keep the rules is said in Good. Assumes nothing.
 use mathlib.Core.Bool.{Bool, true, false}
 use mathlib.Core.List.{List, [], _++_}
-use Prim.Native.Nat.{ℕ, suc, _*_}
-use Rattle.stream.specs.Blocks.{chunkSize, chained}
-use Rattle.stream.specs.Head.{Head, headOf, blockSize}
+use Prim.Native.Nat.{ℕ, zero, suc, _+_, _*_}
+use Rattle.stream.specs.Blocks.{chunkSize, lineHash, chained}
+use Rattle.stream.specs.Head.{Head, headOf, rangeOf, blockSize}
 use Rattle.stream.specs.Lines.{crlf}
+use Rattle.stream.specs.Range.{Range, firstByte}
 
 pub data Beginning : Type 0 where
   -- a head, and the first chunk line
@@ -28,6 +29,13 @@ headIn (onward w b l) = headIn w
 abbrev pub size : Beginning → ℕ
 size w = blockSize (headIn w)
 
+-- the bytes of the body that the answer carries, and where they begin: 0, or request #104's a
+abbrev pub range : Beginning → Range
+range w = rangeOf (headIn w)
+
+abbrev pub start : Beginning → ℕ
+start w = firstByte (range w)
+
 -- the size that its last line announces
 unfoldable pub announces : Beginning → ℕ
 announces (opening h l) = chunkSize l
@@ -38,19 +46,25 @@ unfoldable pub blocks : Beginning → ℕ
 blocks (opening h l) = 0
 blocks (onward w b l) = suc (blocks w)
 
--- the body so far: the blocks joined
+-- the body so far, of a part answer what came of it: the blocks joined
 unfoldable pub body : Beginning → List ℕ
 body (opening h l) = []
 body (onward w b l) = body w ++ b
 
--- the hash of its last block, nothing where there is none: "hash(0) = SHA-512(block 0); hash(i) = SHA-512(hash(i-1), block i)"
+-- the hash before the first block, where the bytes begin at a and l is the first line: nothing, or request #104's `ouihash`: "If a is above 0 the
+-- first chunk line carries `;ouihash=`"
+abbrev pub hashBefore : ℕ → List ℕ → List ℕ
+hashBefore zero l = []
+hashBefore (suc a) l = lineHash l
+
+-- the hash of its last block: "hash(0) = SHA-512(block 0); hash(i) = SHA-512(hash(i-1), block i)"
 unfoldable pub hash : Beginning → List ℕ
-hash (opening h l) = []
+hash (opening h l) = hashBefore (firstByte (rangeOf (headOf h))) l
 hash (onward w b l) = chained (hash w) b
 
--- the offset of the block that comes after it: "i times N"
+-- the offset of the block that comes after it: "i times N"; request #104: "Offsets start at a"
 abbrev pub offset : Beginning → ℕ
-offset w = blocks w * size w
+offset w = start w + blocks w * size w
 
 -- one question about the head, and one about each block
 abbrev pub questions : Beginning → ℕ

@@ -6,5 +6,6 @@ pub mod Telling
 pub mod Releases
 pub mod Shows
 pub mod ShowEvents
+pub mod Parts
 pub mod MessageLines
 pub mod AskedFor

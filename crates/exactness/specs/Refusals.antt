@@ -3,7 +3,7 @@
 use mathlib.Core.Bool.{Bool, true, false}
 use mathlib.Core.List.{List, _++_}
 use mathlib.Core.Path.{_≡_}
-use Prim.Native.Nat.{ℕ, suc, _≤_, _<_}
+use Prim.Native.Nat.{ℕ, suc, _+_, _≤_, _<_}
 use lib.Dec.{eqb}
 use lib.ListN.{length, take}
 use Rattle.sha256.specs.Sha256.{sha256}
@@ -11,13 +11,14 @@ use Rattle.octets.specs.Viable.{LongestViable}
 use Rattle.stream.specs.Blocks.{isChunkLine, lineRules}
 use Rattle.stream.specs.Ends.{allFields, endRules}
 use Rattle.stream.specs.GoodText.{isGoodHead, isGoodDataEnd, isGoodTrailer}
-use Rattle.stream.specs.Head.{endsHead, headOf, blockSize, textRules, callerRules}
+use Rattle.stream.specs.Head.{endsHead, headOf, rangeOf, blockSize, textRules, callerRules}
 use Rattle.stream.specs.Limits.{headLimit, lineLimit}
 use Rattle.stream.specs.Lines.{crlf, endsWith}
+use Rattle.stream.specs.Range.{firstByte}
 use Rattle.stream.specs.Rule.{firstBroken}
 use Rattle.stream.specs.Terms.{Terms}
 use Rattle.stream.specs.Trailer.{endsTrailer, isTrailer}
-use Rattle.exactness.specs.Beginning.{Beginning, onward, written, headIn, size, announces, body, questions}
+use Rattle.exactness.specs.Beginning.{Beginning, onward, written, headIn, size, range, start, announces, body, questions}
 use Rattle.exactness.specs.Good.{EndsFirst, GoodHead, Announced, Good, GoodTrailer, claims}
 use Rattle.exactness.specs.WentWrong.{WentWrong}
 
@@ -40,12 +41,12 @@ pub data Refuses (terms : Terms) : List ℕ → ℕ → ℕ → ℕ → Type 0 w
   head-refused : {h : List ℕ} {n place : ℕ} → Whole endsHead headLimit h
       → firstBroken (textRules h (headOf h) ++ callerRules terms (headOf h)) ≡ suc n
       → WentWrong endsHead isGoodHead h (suc n) place → Refuses terms h 0 (suc n) place
-  -- 6, 8, 7 and 9: on the first line no signature is due, and nothing came before
+  -- 6, 8, 7 and 9: on the first line no signature is due, and the answer's bytes begin there
   first-line-refused : {h l : List ℕ} {n place : ℕ} → GoodHead terms h → Whole (endsWith crlf) lineLimit l
-      → firstBroken (lineRules (blockSize (headOf h)) false true 0 l) ≡ suc n
+      → firstBroken (lineRules (blockSize (headOf h)) (rangeOf (headOf h)) false true (firstByte (rangeOf (headOf h))) l) ≡ suc n
       → WentWrong (endsWith crlf) isChunkLine l (suc n) place → Refuses terms (h ++ l) 1 (suc n) place
   next-line-refused : {w : Beginning} {b l : List ℕ} {n place : ℕ} → Good terms w → Announced w b → Whole (endsWith crlf) lineLimit l
-      → firstBroken (lineRules (size w) true (eqb (length b) (size w)) (length (body w ++ b)) l) ≡ suc n
+      → firstBroken (lineRules (size w) (range w) true (eqb (length b) (size w)) (start w + length (body w ++ b)) l) ≡ suc n
       → WentWrong (endsWith crlf) isChunkLine l (suc n) place → Refuses terms (written (onward w b l)) (questions w) (suc n) place
   -- "data end .. wrong": two bytes that are not CR LF
   data-end-refused : {w : Beginning} {b e : List ℕ} {place : ℕ} → Good terms w → Announced w b → length e ≡ 2 → (e ≡ crlf → ⊥)

@@ -11,7 +11,7 @@ use Rattle.sections.specs.Reading.{cut, cutAt}
 use Rattle.hash.specs.Sha2.{bigEndian, padding, padded, number, parsed, schedule, round, rounds, sums, compressed, hashed, unparsed, digest}
 use Rattle.sha256.specs.Sha256.{sha256, roundWords}
 use Rattle.stream.specs.Bytes.{all, same, lowered, sameName}
-use Rattle.stream.specs.Ends.{allFields, isClaimed, isDigest, digestBytes, endsIn, sameNames, isEndList, endRules, endFault, endString}
+use Rattle.stream.specs.Ends.{allFields, isClaimed, isChecked, isDigest, digestBytes, endsIn, sameNames, isEndList, endRules, endFault, endString}
 use Rattle.stream.specs.Fields.{among, namesOf, hasField, valueOf, valuesOf}
 use Rattle.stream.specs.Head.{headWith, headOf, statusDigits, headKey, listedNames}
 use Rattle.stream.specs.Lines.{endsWith, lines, beforeEmpty, textLines, trimmed, fieldScan, isFieldLine, fieldOf, areFieldLines, fieldsOf, statusScan, statusOf}
@@ -25,20 +25,24 @@ use Rattle.stream.specs.Trailer.{endsTrailer, isWholeTrailer, isTrailer}
 use Rattle.stream.proofs.Example.{key, signature, exampleHead, terms}
 use Rattle.exactness.specs.Good.{claims, GoodClaim, well-claimed}
 use Rattle.exactness.specs.ShowEvents.{showEvents}
-use Rattle.exactness.specs.Shows.{WholeShow, streamOf, Honest}
+use Rattle.exactness.specs.Shows.{Sending, streamOf, Honest}
 use Rattle.exactness.specs.Telling.{endAsks, released}
 use Rattle.exactness.proofs.Faults.{faultless-claim}
-use Rattle.examples.proofs.Example.{showBetween, computed-head, computed-trailer, honest-between, yeses-between, honest-whole, body-between, head-cut, head-faultless, size-five}
+use Rattle.examples.proofs.Example.{showBetween, computed-head, computed-trailer, honest-between, yeses-between, honest-whole, body-between, head-cut, head-faultless, size-five, range-whole}
 
 -- ---- its trailer
 
-abbrev pub trailer : List ℕ
-trailer =
+-- the three fields
+abbrev pub endFields : List ℕ
+endFields =
     octets "Digest: SHA-256=wFNeS+K3n/2TKRMFQ2v4iTFOSj+uwF7P/Lt98xrZ5Ro=\r\nX-Ouinet-Data-Size: 12\r\nX-Ouinet-Sig1: keyId=\"ed25519="
     ++ (key
     ++ (octets
     "\",algorithm=\"hs2019\",created=1584748800, headers=\"(response-status) (created) x-ouinet-version x-ouinet-uri x-ouinet-injection date content-type digest x-ouinet-data-size\",signature=\""
-    ++ (signature ++ octets "\"\r\n\r\n")))
+    ++ (signature ++ octets "\"\r\n")))
+
+abbrev pub trailer : List ℕ
+trailer = endFields ++ octets "\r\n"
 
 trailer-cut : cut isWholeTrailer trailer ≡ cutAt trailer []
 unfolding cut isWholeTrailer endsTrailer endsWith same
@@ -61,8 +65,8 @@ unfolding sha256 roundWords digest padded padding bigEndian number parsed schedu
 body-hash = refl
 
 all-claimed : claims (headOf exampleHead) trailer ≡ true
-unfolding allFields isClaimed headWith headOf lines beforeEmpty textLines trimmed fieldScan fieldOf fieldsOf namesOf hasField among sameName lowered same run past startsWith scan
-all-claimed = refl
+unfolding allFields isChecked isClaimed headWith headOf lines beforeEmpty textLines trimmed fieldScan fieldOf fieldsOf namesOf hasField among sameName lowered same run past startsWith scan
+all-claimed = rw range-whole
 
 end-faultless : endFault (headOf exampleHead) (allFields (headOf exampleHead) trailer) 12 bodyHash ≡ 0
 unfolding isBase64 letterValue holdsThree holdsTwo holdsOne joinedLetters base64Bytes all same lowered sameName allFields isDigest digestBytes endsIn sameNames isEndList endRules endFault among valueOf valuesOf headWith headOf headKey listedNames lines beforeEmpty textLines trimmed fieldScan fieldOf fieldsOf statusScan statusOf numberFrom isDecimal firstBroken injectionScan bsigsScan sig0Scan isSig0 splitNames run past startsWith scan
@@ -75,7 +79,7 @@ end-question = refl
 
 -- ---- the show
 
-pub claimed : WholeShow
+pub claimed : Sending
 claimed = showBetween exampleHead trailer
 
 abbrev pub claimedStream : List ℕ
@@ -87,7 +91,7 @@ good-claim = faultless-claim (headOf exampleHead) (octets "Hello world!") traile
 pub claimed-honest : Honest terms claimed
 unfolding claimed
 claimed-honest =
-    honest-between exampleHead trailer (computed-head exampleHead head-cut head-faultless) size-five (computed-trailer trailer trailer-cut trailer-is)
+    honest-between exampleHead trailer (computed-head exampleHead head-cut head-faultless) size-five range-whole (computed-trailer trailer trailer-cut trailer-is)
     (well-claimed good-claim)
 
 -- with five yeses it comes out whole

@@ -10,12 +10,13 @@ use Rattle.base64.specs.Base64.{isBase64, letterValue, holdsThree, holdsTwo, ho
 use Rattle.sections.specs.Reading.{cut, cutAt}
 use Rattle.sections.proofs.Cuts.{cut-is}
 use Rattle.stream.specs.Bytes.{all, same, lowered, sameName}
-use Rattle.stream.specs.Ends.{allFields, isClaimed}
+use Rattle.stream.specs.Ends.{allFields, isClaimed, isChecked}
 use Rattle.stream.specs.Fields.{among, isDoubled, isProtected, isProtectedDoubled, namesOf, hasField, valueOf}
-use Rattle.stream.specs.Head.{endsHead, isWholeHead, headWith, headOf, statusDigits, injectionTime, blockSize, blockKey, headKey, listedNames, trustedBy, textRules, callerRules, headFault}
+use Rattle.stream.specs.Head.{endsHead, isWholeHead, headWith, headOf, statusDigits, isPartial, signedStatus, rangeOf, injectionTime, blockSize, blockKey, headKey, listedNames, trustedBy, isRanged, textRules, callerRules, headFault}
 use Rattle.stream.specs.Limits.{bodyLimit}
 use Rattle.stream.specs.Lines.{endsWith, lines, beforeEmpty, textLines, trimmed, fieldScan, isFieldLine, fieldOf, areFieldLines, fieldsOf, statusScan, isStatusLine, statusOf}
 use Rattle.stream.specs.Numbers.{numberFrom, isDecimal, isHexNumber}
+use Rattle.stream.specs.Range.{whole, firstByte}
 use Rattle.stream.specs.Ring.{fits, firstFrom, found}
 use Rattle.stream.specs.Rule.{firstBroken}
 use Rattle.stream.specs.Signatures.{injectionScan, isInjection, bsigsScan, isBsigs, sig0Scan, isSig0, splitNames, areFields, isNameList}
@@ -29,7 +30,7 @@ use Rattle.stream.proofs.GivenHeads.{given-head}
 use Rattle.exactness.specs.Beginning.{withEnd}
 use Rattle.exactness.specs.Good.{GoodHead, GoodTrailer, claims, GoodEnd, unclaimed}
 use Rattle.exactness.specs.ShowEvents.{showEvents}
-use Rattle.exactness.specs.Shows.{Chunk, WholeShow, bodyOf, chunksWritten, streamOf, Writes, HonestChunk, HonestChunks, Sized, Honest, yesesOf}
+use Rattle.exactness.specs.Shows.{Chunk, Sending, bodyOf, chunksWritten, streamOf, Writes, HonestChunk, HonestChunks, Sized, Honest, yesesOf}
 use Rattle.exactness.specs.Telling.{released}
 use Rattle.exactness.proofs.Completeness.{show-complete, show-released}
 use Rattle.exactness.proofs.Faults.{faultless-head, faultless-trailer}
@@ -39,19 +40,19 @@ use Rattle.exactness.proofs.Faults.{faultless-head, faultless-trailer}
 pub computed-head : (head : List ℕ) → cut isWholeHead head ≡ cutAt head [] → headFault terms head ≡ 0 → GoodHead terms head
 computed-head head c f = faultless-head terms head ((rw c at (cut-is isWholeHead head)) .3) f
 
-chunk : List ℕ → List ℕ → Chunk
+unfoldable pub chunk : List ℕ → List ℕ → Chunk
 chunk digits block = record { block = block; digits = digits; signature = replicate 64 0 }
 
-chunks : List Chunk
+unfoldable pub chunks : List Chunk
 chunks = chunk (octets "5") (octets "Hello") ∷ chunk (octets "5") (octets " worl") ∷ chunk (octets "2") (octets "d!") ∷ []
 
-pub showBetween : List ℕ → List ℕ → WholeShow
-showBetween head trailer = record { head = head; chunks = chunks; zeros = octets "0"; trailer = trailer }
+unfoldable pub showBetween : List ℕ → List ℕ → Sending
+showBetween head trailer = record { head = head; before = []; chunks = chunks; zeros = octets "0"; trailer = trailer }
 
 abbrev pub noFields : List ℕ
 noFields = octets "\r\n"
 
-abbrev pub showAfter : List ℕ → WholeShow
+abbrev pub showAfter : List ℕ → Sending
 showAfter head = showBetween head noFields
 
 -- it is written as the example is
@@ -62,11 +63,11 @@ stream-after head = refl
 pub computed-trailer : (trailer : List ℕ) → cut isWholeTrailer trailer ≡ cutAt trailer [] → isTrailer trailer ≡ true → GoodTrailer trailer
 computed-trailer trailer c i = faultless-trailer trailer ((rw c at (cut-is isWholeTrailer trailer)) .3) i
 
-trailer-cut : cut isWholeTrailer noFields ≡ cutAt noFields []
+pub trailer-cut : cut isWholeTrailer noFields ≡ cutAt noFields []
 unfolding cut isWholeTrailer endsTrailer endsWith same
 trailer-cut = refl
 
-trailer-is : isTrailer noFields ≡ true
+pub trailer-is : isTrailer noFields ≡ true
 unfolding isTrailer endsTrailer same areFieldLines textLines beforeEmpty lines
 trailer-is = refl
 
@@ -96,22 +97,24 @@ body-joined : bodyOf chunks ≡ octets "Hello world!"
 unfolding chunks chunk bodyOf
 body-joined = refl
 
-pub honest-between : (head trailer : List ℕ) → GoodHead terms head → blockSize (headOf head) ≡ 5 → GoodTrailer trailer
+pub honest-between : (head trailer : List ℕ) → GoodHead terms head → blockSize (headOf head) ≡ 5 → rangeOf (headOf head) ≡ whole → GoodTrailer trailer
     → GoodEnd (headOf head) (octets "Hello world!") trailer → Honest terms (showBetween head trailer)
-unfolding showBetween isHexNumber all numberFrom
-honest-between head trailer good five good-trailer good-end =
+unfolding showBetween isHexNumber all numberFrom firstByte
+honest-between head trailer good five all-sent good-trailer good-end =
     record {
       head = good;
       chunks = chunks-honest;
       sized = chunks-sized (blockSize (headOf head)) five;
-      total = chunks-total;
+      before = rw all-sent refl;
+      total = rw all-sent chunks-total;
       zeros = record { text = refl; value = refl };
       trailer = good-trailer;
       end = rw body-joined good-end;
     }
 
-pub honest-after : (head : List ℕ) → GoodHead terms head → blockSize (headOf head) ≡ 5 → claims (headOf head) noFields ≡ false → Honest terms (showAfter head)
-honest-after head good five none = honest-between head noFields good five (computed-trailer noFields trailer-cut trailer-is) (unclaimed none)
+pub honest-after : (head : List ℕ) → GoodHead terms head → blockSize (headOf head) ≡ 5 → rangeOf (headOf head) ≡ whole
+    → claims (headOf head) noFields ≡ false → Honest terms (showAfter head)
+honest-after head good five all-sent none = honest-between head noFields good five all-sent (computed-trailer noFields trailer-cut trailer-is) (unclaimed none)
 
 -- where no end is claimed, four yeses will do, and else one more
 pub yeses-between : (head trailer : List ℕ) (x : Bool) → claims (headOf head) trailer ≡ x → yesesOf (showBetween head trailer) ≡ withEnd x 4
@@ -119,7 +122,7 @@ unfolding showBetween chunks
 yeses-between head trailer x e = rw e
 
 -- with them it comes out whole
-pub honest-whole : (s : WholeShow) (S : List ℕ) (n : ℕ) → Honest terms s → streamOf s ≡ S → yesesOf s ≡ n
+pub honest-whole : (s : Sending) (S : List ℕ) (n : ℕ) → Honest terms s → streamOf s ≡ S → yesesOf s ≡ n
     → (told : Bool) → plainReading terms S (replicate n true) told ≡ showEvents (terms .ring) s
 honest-whole s S n honest stream yeses told =
     rw (← stream, ← yeses)
@@ -146,26 +149,31 @@ pub example-given : (t : Terms) (rest : List ℕ) (answers : List Bool)
 example-given t rest answers = given-head t exampleHead rest answers head-cut
 
 pub head-faultless : headFault terms exampleHead ≡ 0
-unfolding isBase64 letterValue holdsThree holdsTwo holdsOne joinedLetters base64Bytes all same lowered sameName among isDoubled isProtected isProtectedDoubled namesOf hasField valueOf endsHead headWith headOf statusDigits injectionTime blockSize blockKey headKey listedNames trustedBy textRules callerRules headFault endsWith lines beforeEmpty textLines trimmed fieldScan isFieldLine fieldOf areFieldLines fieldsOf statusScan isStatusLine statusOf numberFrom isDecimal fits firstFrom found firstBroken injectionScan isInjection bsigsScan isBsigs sig0Scan isSig0 splitNames areFields isNameList run past startsWith scan
+unfolding isBase64 letterValue holdsThree holdsTwo holdsOne joinedLetters base64Bytes all same lowered sameName among isDoubled isProtected isProtectedDoubled namesOf hasField valueOf endsHead headWith headOf statusDigits isPartial signedStatus injectionTime blockSize blockKey headKey listedNames trustedBy isRanged textRules callerRules headFault endsWith lines beforeEmpty textLines trimmed fieldScan isFieldLine fieldOf areFieldLines fieldsOf statusScan isStatusLine statusOf numberFrom isDecimal fits firstFrom found firstBroken injectionScan isInjection bsigsScan isBsigs sig0Scan isSig0 splitNames areFields isNameList run past startsWith scan
 head-faultless = refl
 
 pub size-five : blockSize (headOf exampleHead) ≡ 5
 unfolding headWith headOf blockSize numberFrom lines beforeEmpty textLines trimmed fieldScan fieldOf fieldsOf valueOf sameName lowered same bsigsScan injectionScan sig0Scan run past startsWith scan
 size-five = refl
 
+-- all of the body is sent
+pub range-whole : rangeOf (headOf exampleHead) ≡ whole
+unfolding headWith headOf statusDigits isPartial rangeOf lines beforeEmpty textLines same statusScan statusOf run past startsWith scan
+range-whole = refl
+
 -- none of the three fields of an end is in it, or after it
 pub none-claimed : claims (headOf exampleHead) noFields ≡ false
-unfolding allFields isClaimed headWith headOf lines beforeEmpty textLines trimmed fieldScan fieldOf fieldsOf namesOf hasField among sameName lowered same run past startsWith scan
-none-claimed = refl
+unfolding allFields isChecked isClaimed headWith headOf lines beforeEmpty textLines trimmed fieldScan fieldOf fieldsOf namesOf hasField among sameName lowered same run past startsWith scan
+none-claimed = rw range-whole
 
 -- ---- the show
 
-pub example : WholeShow
+unfoldable pub example : Sending
 example = showAfter exampleHead
 
 pub example-honest : Honest terms example
 unfolding example
-example-honest = honest-after exampleHead (computed-head exampleHead head-cut head-faultless) size-five none-claimed
+example-honest = honest-after exampleHead (computed-head exampleHead head-cut head-faultless) size-five range-whole none-claimed
 
 pub example-whole : (told : Bool) → plainReading terms (exampleHead ++ exampleBody) (replicate 4 true) told ≡ showEvents (terms .ring) example
 unfolding example

@@ -2,3 +2,4 @@ pub mod Example
 pub mod RepeatedExample
 pub mod AskedExample
 pub mod ClaimedExample
+pub mod PartExample

@@ -9,7 +9,7 @@ use Rattle.octets.specs.Choice.{pick}
 use Rattle.octets.specs.Octets.{octets}
 use Rattle.stream.specs.Bytes.{same, sameName}
 use Rattle.stream.specs.Fields.{isProtectedDoubled, namesOf, hasField, valueOf}
-use Rattle.stream.specs.Head.{Head, endsHead, isStatus, statusDigits, listedNames, textRules}
+use Rattle.stream.specs.Head.{Head, endsHead, isStatus, signedStatus, isRanged, listedNames, textRules}
 use Rattle.stream.specs.Limits.{fieldLimit}
 use Rattle.stream.specs.Lines.{isStatusLine, areFieldLines}
 use Rattle.stream.specs.Rule.{Rule, rule, firstBroken}
@@ -50,8 +50,9 @@ fault-is l h =
     let uri = leb 1 (length (valueOf uriName (h .fields))) in
     let names = isNameList (h .fields) (listedNames h) in
     let signed = isInjection (h .injection) ∷ isBsigs (h .bsigs) ∷ isSig0 (h .sig0) ∷ names ∷ [] in
-    let rest = isStatus (statusDigits h) ∷ chunked ∷ unsized ∷ uri ∷ signed in
-    let e : holdAll rest ≡ isSound h = rw (flat chunked unsized uri (areSigned (h .fields) (h .injection) (h .bsigs) (h .sig0)), both-true names) in
+    let rest = isStatus (signedStatus h) ∷ isRanged h ∷ chunked ∷ unsized ∷ uri ∷ signed in
+    let all = areSigned (h .fields) (h .injection) (h .bsigs) (h .sig0) in
+    let e : holdAll rest ≡ isSound h = rw (flat chunked unsized uri all, both-true names, and-assoc (isStatus (signedStatus h)) (isRanged h)) in
     let f = group 4 rest [] ∙ ap (λ (b : Bool). pick b 0 4) e in
     let there = hasField versionName (h .fields) in
     let ours = same (valueOf versionName (h .fields)) (octets "4") in

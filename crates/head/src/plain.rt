@@ -1,4 +1,4 @@
-// The version, the status, and the fields that are compared with fixed text or must be there, or not there.
+// The version, the numbers of the statuses, and the fields that are compared with fixed text or must be there, or not there.
 use fields::Fields;
 ghost use mathlib.Core.Path.{_≡_};
 ghost use Rattle.fields.specs.Table.{fieldsIn};
@@ -18,7 +18,7 @@ pub fn version_fault(text: &[u8], f: Fields) -> u8
     0
 }
 
-// The number that three digits write, if it is a status that a head may have; otherwise 0.
+// The number that three digits write, if it is a status that may be signed; otherwise 0.
 pub fn status_number(digits: &[u8]) -> u64
     ensures { λ r. ⌜ r ≡ statusNumber (now (digits .entry)) ⌝ }
 {

@@ -3,16 +3,19 @@ use crate::lines;
 use crate::plain;
 use crate::signed;
 use crate::signed::Signed;
+use crate::status;
 use fields::Fields;
+use ranges::Extent;
 ghost use mathlib.Core.Path.{_≡_};
 ghost use Rattle.head.specs.Reading.{Reads};
 ghost use Rattle.head.specs.Steps.{faultOf};
 
-// The number of the first broken rule, or 0. Only with 0 does the rest say something: the status as a number, the table of
-// the fields, and the parameters.
+// The number of the first broken rule, or 0. Only with 0 does the rest say something: the status as a number, the bytes of the body that
+// the answer carries, the table of the fields, and the parameters.
 pub struct HeadRead {
     pub fault: u8,
     pub status: u64,
+    pub extent: Extent,
     pub fields: Fields,
     pub signed: Signed,
 }
@@ -24,13 +27,16 @@ pub fn read(text: &[u8]) -> HeadRead
     let found = lines::read_lines(text);
     let table = found.fields;
     let version = plain::version_fault(text, table);
-    let status = plain::status_number(places::part(text, 9, 12));
     let compared = plain::is_plain(text, table);
     let said = signed::read_signed(text, table);
-    let sound = (status != 0) & (compared & said.good);
+    let bsigs = said.bsigs;
+    let status = status::read_status(text, table, bsigs.size);
+    let extent = status.extent;
+    let sound = status.good & (compared & said.good);
     HeadRead {
         fault: fault(found.good, version, sound),
-        status,
+        status: status.number,
+        extent,
         fields: table,
         signed: said,
     }

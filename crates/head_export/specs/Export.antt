@@ -19,7 +19,7 @@ made n l = record { number = n; question = l }
 -- the number of a refusal, 0 where a question is asked
 abbrev pub numberOf : HeadAnswer → ℕ
 numberOf (Refused why) = why .number
-numberOf (Asks status size key idLength length) = 0
+numberOf (Asks status size extent key idLength length) = 0
 
 -- a ring of the one key that a text of 44 characters writes
 unfoldable pub oneKey : List ℕ → ℕ → ℕ → Ring

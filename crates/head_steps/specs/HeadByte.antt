@@ -5,6 +5,7 @@ use Prim.Native.Nat.{ℕ, _+_}
 use lib.Dec.{leb}
 use lib.ListN.{length, take, set}
 use Rattle.octets.specs.Choice.{pick}
+use Rattle.ranges.specs.declared.extent.Extent.{Extent}
 use Rattle.refusals.specs.Refusals.{placed}
 use Rattle.judging.specs.Judgement.{Judgement, headJudged}
 use Rattle.judging.specs.declared.HeadAnswer.{HeadAnswer}
@@ -24,16 +25,16 @@ abbrev pub asking : Reader → ℕ → Fixed → Reader
 asking r n fixed = readerAt r (P.HeadAsked n) fixed (record { number = record { 0 = 0 }; hash = r .chain .hash; body = start }) (r .released)
 
 -- what the head says; it is not accepted yet
-abbrev pub fixing : Fixed → ℕ → ℕ → ℕ → List ℕ → ℕ → Fixed
-fixing f status size key id idLength =
-    record { accepted = f .accepted; status = status; «block_size» = size; key = key; id = id; «id_length» = idLength }
+abbrev pub fixing : Fixed → ℕ → ℕ → Extent → ℕ → List ℕ → ℕ → Fixed
+fixing f status size extent key id idLength =
+    record { accepted = f .accepted; status = status; «block_size» = size; extent = extent; key = key; id = id; «id_length» = idLength }
 
 -- the answer, with the signature, the id and the question buffer as judged
 unfoldable pub headAnswered : Configuration → ℕ → HeadAnswer → List ℕ → List ℕ → Next
 headAnswered d n (A.Refused k) signature id = refuse k 0 d
-headAnswered d n (A.Asks status size key idLength length) signature id =
+headAnswered d n (A.Asks status size extent key idLength length) signature id =
     stop (W.Question length key) signature
-    (configuration (asking (d .reader) n (fixing (d .reader .fixed) status size key id idLength)) (d .head) (d .block) (d .question))
+    (configuration (asking (d .reader) n (fixing (d .reader .fixed) status size extent key id idLength)) (d .head) (d .block) (d .question))
 
 -- the buffers after the judgement: a question is written, a refusal changes nothing
 abbrev pub judgedAt : Configuration → ℕ → Judgement → Next

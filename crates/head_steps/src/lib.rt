@@ -54,6 +54,7 @@ fn answer_judged(r: Reader, n: usize, judged: Judged) -> Stepped
         HeadAnswer::Asks {
             status,
             size,
+            extent,
             key,
             id_length,
             length,
@@ -63,6 +64,7 @@ fn answer_judged(r: Reader, n: usize, judged: Judged) -> Stepped
                 accepted: before.accepted,
                 status,
                 block_size: size,
+                extent,
                 key,
                 id,
                 id_length,

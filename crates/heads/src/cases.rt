@@ -6,6 +6,7 @@ use crate::lines::say_number;
 use judging::HeadAnswer;
 use limits::HEAD_LIMIT;
 use number::Number;
+use ranges::Extent;
 use refusals::Refusal;
 use ring::KeyRing;
 ghost use Prim.Native.Nat.{_+_, _<_, _≤_};
@@ -80,6 +81,7 @@ fn judge_case(label: &[u8], head: &[u8], ring: KeyRing, question: &mut [u8; HEAD
         HeadAnswer::Asks {
             status,
             size,
+            extent,
             key,
             id_length,
             length,
@@ -87,6 +89,7 @@ fn judge_case(label: &[u8], head: &[u8], ring: KeyRing, question: &mut [u8; HEAD
             say_count(b" asks ", length);
             say_number(b" status ", status);
             say_count(b" size ", size);
+            say_extent(extent);
             say_count(b" key ", key);
             say_part(b" id ", &id, id_length);
             say_string(label, &signature, places::part(question, 0, length));
@@ -99,6 +102,18 @@ fn say_refused(why: Refusal) {
     say_number(b" refused ", wide(why.number));
     if refusals::has_place(why.number) {
         say_count(b" at ", why.at);
+    }
+}
+
+// The bytes of the body that a part answer carries; of a whole one nothing is said.
+fn say_extent(e: Extent) {
+    match e {
+        Extent::Whole => {}
+        Extent::Part { first, last, total } => {
+            say_number(b" part ", first.0);
+            say_number(b"-", last.0);
+            say_number(b"/", total);
+        }
     }
 }
 

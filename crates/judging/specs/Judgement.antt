@@ -5,8 +5,9 @@ use lib.Dec.{eqb, leb}
 use lib.ListN.{length, drop, replicate}
 use Rattle.octets.specs.Choice.{pick}
 use Rattle.params.specs.Injection.{padded}
+use Rattle.ranges.specs.Extent.{extentOf}
 use Rattle.refusals.specs.Refusals.{refusalOf}
-use Rattle.stream.specs.Head.{Head, headOf, statusDigits, blockSize, injectionId, headSignature, signingString, trustedBy, headFault}
+use Rattle.stream.specs.Head.{Head, headOf, statusDigits, rangeOf, blockSize, injectionId, headSignature, signingString, trustedBy, headFault}
 use Rattle.stream.specs.Limits.{idLimit}
 use Rattle.stream.specs.Numbers.{decimalValue}
 use Rattle.stream.specs.Places.{headPlace}
@@ -33,7 +34,7 @@ unfoldable pub asked : ℕ → Head → List ℕ → Judgement
 asked key h question =
     judged
     (record {
-      answer = Asks (decimalValue (statusDigits h)) (blockSize h) key (length (injectionId h)) (length (signingString h));
+      answer = Asks (decimalValue (statusDigits h)) (blockSize h) (extentOf (rangeOf h)) key (length (injectionId h)) (length (signingString h));
       signature = headSignature h;
       id = padded idLimit (injectionId h);
     })

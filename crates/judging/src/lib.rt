@@ -2,6 +2,7 @@
 use fields::Fields;
 use head::HeadRead;
 use head::Signed;
+use ranges::Extent;
 use refusals::Refusal;
 use ring::Found;
 use ring::KeyRing;
@@ -21,12 +22,13 @@ ghost use Rattle.stream.specs.Signatures.{uriName};
 ghost use Rattle.judging.specs.Judgement.{asked, headJudged, judged, noneAsked};
 
 // Refused. Or accepted if a signature is good, of the string whose `length` bytes were written: the status, the
-// size of a block, the number of the key's record, and the length of the id.
+// size of a block, the bytes of the body that the answer carries, the number of the key's record, and the length of the id.
 pub enum HeadAnswer {
     Refused(Refusal),
     Asks {
         status: u64,
         size: usize,
+        extent: Extent,
         key: usize,
         id_length: usize,
         length: usize,
@@ -112,14 +114,16 @@ fn ask(text: &[u8], head: HeadRead, key: usize, question: &mut [u8]) -> Judged
     let injection = signed.injection;
     let list = places::part(text, sig0.names_start, sig0.names_end);
     let created = places::part(text, sig0.created_start, sig0.created_end);
-    let digits = places::part(text, 9, 12);
-    let length = signing::put_string(text, table, list, names, digits, created, question);
+    let status = head::signed_status(text, table);
+    let length = signing::put_string(text, table, list, names, status, created, question);
     let signature = sig0.signature;
     let id = injection.id;
+    let extent = head.extent;
     Judged {
         answer: HeadAnswer::Asks {
             status: head.status,
             size: bsigs.size,
+            extent,
             key,
             id_length: injection.id_length,
             length,

@@ -12,19 +12,20 @@ use Rattle.base64.specs.Base64.{isBase64, letterValue, holdsThree, holdsTwo, ho
 use Rattle.hash.specs.Sha2.{bigEndian, padding, padded, number, parsed, schedule, round, rounds, sums, compressed, hashed, unparsed, digest}
 use Rattle.hash.specs.Sha512.{roundWords, sha512}
 use Rattle.sections.specs.Reading.{question, message, last, Log, cut, sections, readingAt, reading}
-use Rattle.stream.specs.Blocks.{isWholeLine, carriesSignature, isChunkLine, chunkSize, lineSignature, lineRules, lineFault, chained, blockMessage}
+use Rattle.stream.specs.Blocks.{isWholeLine, carriesSignature, isChunkLine, chunkSize, lineSignature, lineRules, lineFault, chained, blockMessage, carriesHash, isExtension, isHashDue, lineHash}
 use Rattle.stream.specs.Bytes.{all, same, lowered, sameName}
-use Rattle.stream.specs.Ends.{allFields, isClaimed}
+use Rattle.stream.specs.Ends.{allFields, isClaimed, isChecked}
 use Rattle.stream.specs.Events.{Question, Release, LastWord, closed, complete, refused}
 use Rattle.stream.specs.Fields.{among, isDoubled, isProtected, isProtectedDoubled, namesOf, hasField, valueOf}
-use Rattle.stream.specs.Head.{endsHead, isWholeHead, headWith, headOf, statusDigits, injectionId, injectionTime, blockSize, blockKey, headKey, listedNames, headSignature, trustedBy, textRules, callerRules, headFault}
+use Rattle.stream.specs.Head.{endsHead, isWholeHead, headWith, headOf, statusDigits, injectionId, injectionTime, blockSize, blockKey, headKey, listedNames, headSignature, trustedBy, textRules, callerRules, headFault, isPartial, isRanged, rangeOf, signedStatus}
 use Rattle.stream.specs.Lines.{endsWith, lines, beforeEmpty, textLines, trimmed, fieldScan, isFieldLine, fieldOf, areFieldLines, fieldsOf, statusScan, isStatusLine, statusOf}
 use Rattle.stream.specs.Numbers.{numberFrom, isDecimal, isHexNumber, decimalWithin, decimal}
+use Rattle.stream.specs.Range.{firstByte, isWithin}
 use Rattle.stream.specs.Ring.{fits, firstFrom, found}
 use Rattle.stream.specs.Rule.{firstBroken}
 use Rattle.stream.specs.Signatures.{injectionScan, isInjection, bsigsScan, isBsigs, sig0Scan, isSig0, splitNames, areFields, isNameList}
 use Rattle.stream.specs.Signing.{separated, signingLine, signingText}
-use Rattle.stream.specs.Stream.{isWhole, showOf, acceptHead, judgeFirstLine, judgeDataEnd, blockQuestion, acceptBlock, judgeNextLine, judgeEnd, judgeTrailer, judge, rules}
+use Rattle.stream.specs.Stream.{isWhole, showOf, acceptHead, judgeFirstLine, judgeDataEnd, blockQuestion, acceptBlock, judgeNextLine, judgeEnd, judgeTrailer, judge, rules, releasedWith, startFrom, startOf}
 use Rattle.stream.specs.Template.{run, past, startsWith, scan}
 use Rattle.stream.specs.Trailer.{endsTrailer, isWholeTrailer, isTrailer}
 use Rattle.stream.proofs.Example.{terms, injection, exampleHead, exampleBody}
@@ -40,7 +41,7 @@ twice = Written.headWith (injection ++ octets "\r\nDate: Sat") (octets "5")
 
 -- the example was good before; with the field twice it was refused with 3, and is good now
 pub example-faults : olderFault terms exampleHead ∷ olderFault terms twice ∷ headFault terms twice ∷ [] ≡ 0 ∷ 3 ∷ 0 ∷ []
-unfolding isBase64 letterValue holdsThree holdsTwo holdsOne joinedLetters base64Bytes all same lowered sameName among isDoubled isProtected isProtectedDoubled namesOf hasField valueOf endsHead headWith headOf statusDigits injectionTime blockSize blockKey headKey listedNames trustedBy textRules callerRules headFault endsWith lines beforeEmpty textLines trimmed fieldScan isFieldLine fieldOf areFieldLines fieldsOf statusScan isStatusLine statusOf numberFrom isDecimal fits firstFrom found firstBroken injectionScan isInjection bsigsScan isBsigs sig0Scan isSig0 splitNames areFields isNameList run past startsWith scan olderRules olderFault
+unfolding isBase64 letterValue holdsThree holdsTwo holdsOne joinedLetters base64Bytes all same lowered sameName among isDoubled isProtected isProtectedDoubled namesOf hasField valueOf endsHead headWith headOf statusDigits injectionTime blockSize blockKey headKey listedNames trustedBy textRules callerRules headFault endsWith lines beforeEmpty textLines trimmed fieldScan isFieldLine fieldOf areFieldLines fieldsOf statusScan isStatusLine statusOf numberFrom isDecimal fits firstFrom found firstBroken injectionScan isInjection bsigsScan isBsigs sig0Scan isSig0 splitNames areFields isNameList run past startsWith scan olderRules olderFault isPartial signedStatus isRanged
 example-faults = refl
 
 -- ---- a reading without a refusal
@@ -71,7 +72,7 @@ abbrev exampleReading : Log Question Release LastWord
 exampleReading = olderReading terms (exampleHead ++ exampleBody) (replicate 4 true) true
 
 unrefused : isRefused 3 exampleReading ≡ false
-unfolding isBase64 letterValue holdsThree holdsTwo holdsOne joinedLetters base64Bytes cut sections readingAt reading isWholeLine carriesSignature isChunkLine chunkSize lineSignature lineRules lineFault chained blockMessage all same lowered sameName among isDoubled isProtected isProtectedDoubled namesOf hasField valueOf endsHead isWholeHead headWith headOf statusDigits injectionId injectionTime blockSize blockKey headKey listedNames headSignature trustedBy textRules callerRules headFault endsWith lines beforeEmpty textLines trimmed fieldScan isFieldLine fieldOf areFieldLines fieldsOf statusScan isStatusLine statusOf numberFrom isDecimal isHexNumber decimalWithin decimal fits firstFrom found firstBroken injectionScan isInjection bsigsScan isBsigs sig0Scan isSig0 splitNames areFields isNameList separated signingLine signingText isWhole showOf judgeFirstLine judgeDataEnd blockQuestion acceptBlock judgeNextLine allFields isClaimed judgeEnd judgeTrailer judge rules bigEndian padding padded number parsed schedule round rounds sums compressed hashed unparsed digest roundWords sha512 run past startsWith scan endsTrailer isWholeTrailer isTrailer isRefused olderRules olderFault singleFields olderSigned olderString olderQuestion olderAccept olderHead olderReading judgeWith readingWith
+unfolding isBase64 letterValue holdsThree holdsTwo holdsOne joinedLetters base64Bytes cut sections readingAt reading isWholeLine carriesSignature isChunkLine chunkSize lineSignature lineRules lineFault chained blockMessage all same lowered sameName among isDoubled isProtected isProtectedDoubled namesOf hasField valueOf endsHead isWholeHead headWith headOf statusDigits injectionId injectionTime blockSize blockKey headKey listedNames headSignature trustedBy textRules callerRules headFault endsWith lines beforeEmpty textLines trimmed fieldScan isFieldLine fieldOf areFieldLines fieldsOf statusScan isStatusLine statusOf numberFrom isDecimal isHexNumber decimalWithin decimal fits firstFrom found firstBroken injectionScan isInjection bsigsScan isBsigs sig0Scan isSig0 splitNames areFields isNameList separated signingLine signingText isWhole showOf judgeFirstLine judgeDataEnd blockQuestion acceptBlock judgeNextLine allFields isClaimed judgeEnd judgeTrailer judge rules bigEndian padding padded number parsed schedule round rounds sums compressed hashed unparsed digest roundWords sha512 run past startsWith scan endsTrailer isWholeTrailer isTrailer isRefused olderRules olderFault singleFields olderSigned olderString olderQuestion olderAccept olderHead olderReading judgeWith readingWith carriesHash isExtension lineHash isHashDue firstByte isWithin rangeOf isPartial signedStatus isRanged startFrom startOf releasedWith isChecked
 unrefused = refl
 
 -- what is said of readings without refusal 3 is said of this one
@@ -84,7 +85,7 @@ abbrev exampleUnderPaper : Log Question Release LastWord
 exampleUnderPaper = readingUnder paperLimits terms (exampleHead ++ exampleBody) (replicate 4 true) true
 
 unrefused-under-paper : isRefused 3 exampleUnderPaper || isRefused 6 exampleUnderPaper ≡ false
-unfolding isBase64 letterValue holdsThree holdsTwo holdsOne joinedLetters base64Bytes cut sections readingAt reading isWholeLine carriesSignature isChunkLine chunkSize lineSignature lineRules lineFault chained blockMessage all same lowered sameName among isDoubled isProtected isProtectedDoubled namesOf hasField valueOf endsHead isWholeHead headWith headOf statusDigits injectionId injectionTime blockSize blockKey headKey listedNames headSignature trustedBy textRules callerRules headFault endsWith lines beforeEmpty textLines trimmed fieldScan isFieldLine fieldOf areFieldLines fieldsOf statusScan isStatusLine statusOf numberFrom isDecimal isHexNumber decimalWithin decimal fits firstFrom found firstBroken injectionScan isInjection bsigsScan isBsigs sig0Scan isSig0 splitNames areFields isNameList separated signingLine signingText isWhole showOf judgeFirstLine judgeDataEnd blockQuestion acceptBlock judgeNextLine allFields isClaimed judgeEnd judgeTrailer judge rules bigEndian padding padded number parsed schedule round rounds sums compressed hashed unparsed digest roundWords sha512 run past startsWith scan endsTrailer isWholeTrailer isTrailer isRefused judgeWith acceptHead isWholeUnder textRulesUnder faultUnder judgeHeadUnder readingUnder
+unfolding isBase64 letterValue holdsThree holdsTwo holdsOne joinedLetters base64Bytes cut sections readingAt reading isWholeLine carriesSignature isChunkLine chunkSize lineSignature lineRules lineFault chained blockMessage all same lowered sameName among isDoubled isProtected isProtectedDoubled namesOf hasField valueOf endsHead isWholeHead headWith headOf statusDigits injectionId injectionTime blockSize blockKey headKey listedNames headSignature trustedBy textRules callerRules headFault endsWith lines beforeEmpty textLines trimmed fieldScan isFieldLine fieldOf areFieldLines fieldsOf statusScan isStatusLine statusOf numberFrom isDecimal isHexNumber decimalWithin decimal fits firstFrom found firstBroken injectionScan isInjection bsigsScan isBsigs sig0Scan isSig0 splitNames areFields isNameList separated signingLine signingText isWhole showOf judgeFirstLine judgeDataEnd blockQuestion acceptBlock judgeNextLine allFields isClaimed judgeEnd judgeTrailer judge rules bigEndian padding padded number parsed schedule round rounds sums compressed hashed unparsed digest roundWords sha512 run past startsWith scan endsTrailer isWholeTrailer isTrailer isRefused judgeWith acceptHead isWholeUnder textRulesUnder faultUnder judgeHeadUnder readingUnder carriesHash isExtension lineHash isHashDue firstByte isWithin rangeOf isPartial signedStatus isRanged startFrom startOf releasedWith isChecked
 unrefused-under-paper = refl
 
 -- what is said of readings under the older limits without refusals 3 and 6 is said of this one

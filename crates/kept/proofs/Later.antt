@@ -9,15 +9,17 @@ use Rattle.sections.specs.Reading.{Log, go, tell, ask, stop, Grant, granted, fi
 use Rattle.sections.proofs.Scans.{section-read}
 use Rattle.stream.specs.Blocks.{lineFault, chunkSize}
 use Rattle.stream.specs.Bytes.{same}
-use Rattle.stream.specs.Ends.{allFields, isClaimed, endFault}
+use Rattle.stream.specs.Ends.{allFields, isChecked, endFault}
 use Rattle.stream.specs.Events.{Question, Release, LastWord, complete}
 use Rattle.stream.specs.Head.{isWholeHead, headOf, headFault}
 use Rattle.stream.specs.Lines.{crlf, Field}
 use Rattle.stream.specs.Places.{headPlace, linePlace}
-use Rattle.stream.specs.Stream.{Show, Past, nothing, after, Context, head, firstLine, blockData, dataEnd, nextLine, trailer, isWhole, Says, unlessBroken, announced, acceptHead, acceptBlock, bodyWith, judgeHead, judgeFirstLine, judgeDataEnd, judgeNextLine, endQuestion, judgeEnd, judgeTrailer, judge, rules, plainReading}
+use Rattle.stream.specs.Range.{firstByte}
+use Rattle.stream.specs.Stream.{Show, range, Past, startOf, after, Context, head, firstLine, blockData, dataEnd, nextLine, trailer, isWhole, Says, announced, acceptHead, acceptBlock, bodyWith, releasedWith, judgeHead, judgeFirstLine, judgeDataEnd, judgeNextLine, endQuestion, judgeEnd, judgeTrailer, judge, rules, plainReading}
 use Rattle.stream.specs.Terms.{Terms}
 use Rattle.stream.specs.Trailer.{isTrailer}
 use Rattle.kept.specs.OtherHeads.{judgeWith, rulesWith, readingWith}
+use Rattle.kept.proofs.Leads.{Leads, unless-leads, test-leads}
 
 -- ---- where a section leads
 
@@ -32,40 +34,28 @@ Later (trailer s p total) = Unit
 
 -- reading goes on there, if at all
 abbrev LeadsOn : Says → Type 0
-LeadsOn (go c) = Later c
-LeadsOn (tell e c) = Later c
-LeadsOn (ask q (granted e c)) = Later c
-LeadsOn (ask q (final l)) = Unit
-LeadsOn (stop l) = Unit
-
-unless-leads : (n place : ℕ) (v : Says) → LeadsOn v → LeadsOn (unlessBroken n place v)
-unless-leads zero place v k = k
-unless-leads (suc n) place v k = tt
+LeadsOn v = Leads Later v
 
 announced-later : (s : Show) (p : Past) (total n : ℕ) → Later (announced s p total n)
 announced-later s p total zero = tt
 announced-later s p total (suc n) = tt
 
-test-leads : (t : Bool) (v w : Says) → LeadsOn v → LeadsOn w → LeadsOn (elim t [ true ↦ v | false ↦ w ])
-test-leads true v w k m = k
-test-leads false v w k m = m
-
 end-leads : (s : Show) (total : ℕ) (hash : List ℕ) (fs : List Field) → LeadsOn (judgeEnd s total hash fs)
 unfolding judgeEnd
-end-leads s total hash fs = test-leads (isClaimed fs) _ _ (unless-leads (endFault (s .head) fs total hash) 0 (ask (endQuestion s fs) (final (complete total))) tt) tt
+end-leads s total hash fs = test-leads Later (isChecked (range s) fs) _ _ (unless-leads Later (endFault (s .head) fs total hash) 0 (ask (endQuestion s fs) (final (complete total))) tt) tt
 
 judge-leads : (terms : Terms) (c : Context) (l : List ℕ) → LeadsOn (judge terms c l)
 unfolding judge judgeHead judgeFirstLine judgeDataEnd judgeNextLine judgeTrailer acceptHead acceptBlock
-judge-leads terms head l = unless-leads (headFault terms l) (headPlace l) (acceptHead (terms .ring) (headOf l)) tt
+judge-leads terms head l = unless-leads Later (headFault terms l) (headPlace l) (acceptHead (terms .ring) (headOf l)) tt
 judge-leads terms (firstLine s) l =
-    unless-leads (lineFault (s .size) false true 0 l) (linePlace l) (go (announced s nothing 0 (chunkSize l)))
-    (announced-later s nothing 0 (chunkSize l))
+    unless-leads Later (lineFault (s .size) (range s) false true (firstByte (range s)) l) (linePlace l) (go (announced s (startOf s l) 0 (chunkSize l)))
+    (announced-later s (startOf s l) 0 (chunkSize l))
 judge-leads terms (blockData s p n) l = tt
-judge-leads terms (dataEnd s p b) l = test-leads (same l crlf) _ _ tt tt
+judge-leads terms (dataEnd s p b) l = test-leads Later (same l crlf) _ _ tt tt
 judge-leads terms (nextLine s p b) l =
-    unless-leads (lineFault (s .size) true (eqb (length b) (s .size)) (bodyWith s p b) l) (linePlace l) (acceptBlock s p b l)
-    (announced-later s (after p b) (bodyWith s p b) (chunkSize l))
-judge-leads terms (trailer s p total) l = test-leads (isTrailer l) _ _ (end-leads s total _ (allFields (s .head) l)) tt
+    unless-leads Later (lineFault (s .size) (range s) true (eqb (length b) (s .size)) (bodyWith s p b) l) (linePlace l) (acceptBlock s p b l)
+    (announced-later s (after p b) (releasedWith s p b) (chunkSize l))
+judge-leads terms (trailer s p total) l = test-leads Later (isTrailer l) _ _ (end-leads s total _ (allFields (s .head) l)) tt
 
 -- ---- the two readings
 

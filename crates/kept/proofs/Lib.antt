@@ -1,4 +1,5 @@
 pub mod Example
+pub mod Leads
 pub mod Later
 pub mod OneValue
 pub mod OlderFault
@@ -10,3 +11,5 @@ pub mod Further
 pub mod Limits
 pub mod Unchecked
 pub mod Unclaimed
+pub mod WholeOnly
+pub mod PartExample

@@ -1,7 +1,7 @@
 -- WHERE NO END IS CLAIMED a stream is read as before request #101: section by section, from a good beginning on. Assumes nothing.
 use mathlib.Core.Bool.{Bool, true, false}
 use mathlib.Core.List.{List, [], _∷_, _++_, append-assoc}
-use mathlib.Core.Path.{_≡_, refl, ap, _∙_}
+use mathlib.Core.Path.{_≡_, refl}
 use Prim.Native.Nat.{ℕ, zero, suc, _+_, _≤_, _<_}
 use native.Mathlib.Nat.{zero-add}
 use native.Mathlib.Omega.{arith}
@@ -18,15 +18,15 @@ use Rattle.stream.specs.Events.{Question, Release, LastWord, closed}
 use Rattle.stream.specs.Head.{endsHead, isWholeHead, headOf}
 use Rattle.stream.specs.Limits.{headLimit, lineLimit}
 use Rattle.stream.specs.Lines.{crlf, endsWith}
-use Rattle.stream.specs.Stream.{Show, Past, nothing, after, Context, head, firstLine, blockData, dataEnd, nextLine, trailer, isWhole, announced, Says, showOf, acceptHead, judgeHead, judgeFirstLine, judgeDataEnd, bodyWith, acceptBlock, judgeNextLine, judgeEnd, judgeTrailer, judge, rules, plainReading}
+use Rattle.stream.specs.Stream.{Show, range, Past, startOf, after, Context, head, firstLine, blockData, dataEnd, nextLine, trailer, isWhole, announced, Says, showOf, acceptHead, judgeHead, judgeFirstLine, judgeDataEnd, bodyWith, releasedWith, acceptBlock, judgeNextLine, judgeEnd, judgeTrailer, judge, rules, plainReading}
 use Rattle.stream.specs.Terms.{Terms}
 use Rattle.stream.specs.Trailer.{endsTrailer, isWholeTrailer}
-use Rattle.exactness.specs.Beginning.{Beginning, onward, written, headIn, announces, blocks, body, hash}
+use Rattle.exactness.specs.Beginning.{Beginning, onward, written, headIn, announces, body, hash}
 use Rattle.exactness.specs.Good.{EndsFirst, GoodHead, GoodFirstLine, GoodNextLine, Good, opens, goes-on, GoodTrailer, claims}
-use Rattle.exactness.specs.Shows.{WholeShow, streamOf, Honest, claimsEnd, beginningOf}
+use Rattle.exactness.specs.Shows.{Sending, streamOf, Honest, claimsEnd, beginningOf}
 use Rattle.exactness.proofs.Ends.{limited, first-whole, first-none}
 use Rattle.exactness.proofs.Faults.{head-faultless, first-faultless, next-faultless, trailer-faultless}
-use Rattle.exactness.proofs.Forward.{pastOf, contextOf, offset-is, place-is}
+use Rattle.exactness.proofs.Forward.{blocksBefore, pastOf, first-past, contextOf, body-with, released-with, place-is}
 use Rattle.exactness.proofs.HonestShows.{show-written, show-head, show-good}
 use Rattle.exactness.proofs.Wholes.{some-byte}
 use Rattle.kept.specs.Kept.{SameUnclaimed}
@@ -95,25 +95,25 @@ module _ (terms : Terms) where
       section-same head 0 h r (acceptHead (terms .ring) (headOf h)) (good-cut endsHead headLimit h r refl (g .ends) (g .short))
       (rw (head-faultless terms h g)) (rw (head-faultless terms h g)) (rw (zero-add (length h)) k)
 
-  first-same : (s : Show) (at : ℕ) (l r : List ℕ) → GoodFirstLine (s .size) l → SameRest (announced s nothing 0 (chunkSize l)) (at + length l) r
-      → SameRest (firstLine s) at (l ++ r)
+  first-same : (s : Show) (at : ℕ) (l r : List ℕ) → GoodFirstLine (s .size) (range s) l
+      → SameRest (announced s (startOf s l) 0 (chunkSize l)) (at + length l) r → SameRest (firstLine s) at (l ++ r)
   unfolding isWhole isWholeLine judge judgeFirstLine judgeUnchecked endsWith same
   first-same s at l r g k =
-      section-same (firstLine s) at l r (go (announced s nothing 0 (chunkSize l)))
+      section-same (firstLine s) at l r (go (announced s (startOf s l) 0 (chunkSize l)))
       (good-cut (endsWith crlf) lineLimit l r refl (g .line .ends) (g .line .short))
-      (rw (first-faultless (s .size) l g)) (rw (first-faultless (s .size) l g)) k
+      (rw (first-faultless (s .size) (range s) l g)) (rw (first-faultless (s .size) (range s) l g)) k
 
-  next-same : (s : Show) (p : Past) (at : ℕ) (b l r : List ℕ) → GoodNextLine (s .size) (bodyWith s p b) b l
-      → SameRest (announced s (after p b) (bodyWith s p b) (chunkSize l)) (at + length l) r → SameRest (nextLine s p b) at (l ++ r)
+  next-same : (s : Show) (p : Past) (at : ℕ) (b l r : List ℕ) → GoodNextLine (s .size) (range s) (bodyWith s p b) b l
+      → SameRest (announced s (after p b) (releasedWith s p b) (chunkSize l)) (at + length l) r → SameRest (nextLine s p b) at (l ++ r)
   unfolding isWhole isWholeLine judge judgeNextLine judgeUnchecked acceptBlock endsWith same
   next-same s p at b l r g k =
       section-same (nextLine s p b) at l r (acceptBlock s p b l)
       (good-cut (endsWith crlf) lineLimit l r refl (g .line .ends) (g .line .short))
-      (rw (next-faultless (s .size) (bodyWith s p b) b l g)) (rw (next-faultless (s .size) (bodyWith s p b) b l g)) k
+      (rw (next-faultless (s .size) (range s) (bodyWith s p b) b l g)) (rw (next-faultless (s .size) (range s) (bodyWith s p b) b l g)) k
 
   -- a block, its CR LF and the line after it
-  block-same : (s : Show) (p : Past) (n at : ℕ) (b l r : List ℕ) → 1 ≤ length b → length b ≡ n → GoodNextLine (s .size) (bodyWith s p b) b l
-      → SameRest (announced s (after p b) (bodyWith s p b) (chunkSize l)) (at + length b + 2 + length l) r
+  block-same : (s : Show) (p : Past) (n at : ℕ) (b l r : List ℕ) → 1 ≤ length b → length b ≡ n → GoodNextLine (s .size) (range s) (bodyWith s p b) b l
+      → SameRest (announced s (after p b) (releasedWith s p b) (chunkSize l)) (at + length b + 2 + length l) r
       → SameRest (blockData s p n) at (b ++ (crlf ++ (l ++ r)))
   unfolding isWhole judge judgeDataEnd judgeUnchecked same
   block-same s p n at b l r i e g k =
@@ -132,27 +132,25 @@ module _ (terms : Terms) where
 
   onward-same : (w : Beginning) (b l r : List ℕ) → Good terms (onward w b l) → SameRest (contextOf terms (onward w b l)) (length (written (onward w b l))) r
       → SameRest (contextOf terms w) (length (written w)) (b ++ (crlf ++ (l ++ r)))
-  unfolding headIn announces blocks body hash showOf
+  unfolding headIn announces blocksBefore body hash showOf
   onward-same w b l r (goes-on g a n) k = by (announces w) refl (a .just)
     where
       s : Show
       s = showOf (terms .ring) (headIn w)
 
-      m : 1 ≤ announces w → length (body w ++ b) ≡ bodyWith s (pastOf w) b
-      m x = length-append (body w) b ∙ ap (λ (o : ℕ). o + length b) (offset-is w g x)
-
       by : (j : ℕ) → announces w ≡ j → length b ≡ j
           → SameRest (announced s (pastOf w) (length (body w)) j) (length (written w)) (b ++ (crlf ++ (l ++ r)))
       by zero z f = absurd (omega (arith, a .some))
       by (suc j) z f =
-          block-same s (pastOf w) (suc j) (length (written w)) b l r (a .some) f (rw (m (omega arith)) at n)
-          (rw (← m (omega arith), place-is w b l) k)
+          block-same s (pastOf w) (suc j) (length (written w)) b l r (a .some) f (rw (← body-with w g b a) at n)
+          (rw (released-with w g b a, place-is w b l) k)
 
   beginning-same : (w : Beginning) (r : List ℕ) → Good terms w → SameRest (contextOf terms w) (length (written w)) r → SameRest head 0 (written w ++ r)
-  unfolding written headIn announces blocks body hash showOf
+  unfolding written headIn announces body showOf
   beginning-same w r (opens {h = h} {l = l} g k) rest =
       rw (append-assoc h l r)
-      (head-same h (l ++ r) g (first-same (showOf (terms .ring) (headOf h)) (length h) l r k (rw (← length-append h l) rest)))
+      (head-same h (l ++ r) g
+      (first-same (showOf (terms .ring) (headOf h)) (length h) l r k (rw (← length-append h l, first-past (terms .ring) h l) rest)))
   beginning-same w r (goes-on {w = v} {b = b} {l = l} g a n) rest =
       rw (append-assoc (written v) (b ++ (crlf ++ l)) r, append-assoc b (crlf ++ l) r)
       (beginning-same v (b ++ (crlf ++ (l ++ r))) g (onward-same v b l r (goes-on g a n) rest))
@@ -168,7 +166,7 @@ unfolding plainReading uncheckedReading reading
 same-unclaimed terms w t rest g z k c answers told = beginning-same terms w (t ++ rest) g (ended-same terms w t rest z k c) answers told
 
 -- and so every honest show that claims no end, whatever comes after its stream: document 000's example is one (crate examples)
-pub honest-unclaimed : (terms : Terms) (s : WholeShow) (rest : List ℕ) → Honest terms s → claimsEnd s ≡ false → (answers : List Bool) (told : Bool)
+pub honest-unclaimed : (terms : Terms) (s : Sending) (rest : List ℕ) → Honest terms s → claimsEnd s ≡ false → (answers : List Bool) (told : Bool)
     → plainReading terms (streamOf s ++ rest) answers told ≡ uncheckedReading terms (streamOf s ++ rest) answers told
 honest-unclaimed terms s rest h c answers told =
     let g = show-good terms s h in

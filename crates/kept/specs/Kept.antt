@@ -19,6 +19,7 @@ use Rattle.kept.specs.Older.{olderReading}
 use Rattle.kept.specs.OtherLimits.{SectionLimits, theseLimits, readingUnder}
 use Rattle.kept.specs.Unasked.{unaskedReading}
 use Rattle.kept.specs.Unchecked.{uncheckedReading}
+use Rattle.kept.specs.WholeOnly.{wholeOnlyReading}
 
 -- the reading does not end in that refusal, at whatever place
 abbrev pub NeverRefused : ℕ → Log Question Release LastWord → Type 0
@@ -99,7 +100,7 @@ SameUnclosed =
     → plainReading terms stream answers told ≡ uncheckedReading terms stream answers told
 
 -- "none of the three, *closed* as today": a good beginning and a good trailer, with none of the three fields in head and trailer, give the same
--- events, whatever comes after them and whatever the answers are.
+-- events, whatever comes after them and whatever the answers are; and so do those of a part answer, whose end is not checked (request #104).
 abbrev pub SameUnclaimed : Type 0
 SameUnclaimed =
     (terms : Terms) (w : Beginning) (t rest : List ℕ) → Good terms w → announces w ≡ 0 → GoodTrailer t → claims (headIn w) t ≡ false
@@ -111,4 +112,22 @@ abbrev pub NoneLostUnchecked : Type 0
 NoneLostUnchecked =
     (terms : Terms) (stream : List ℕ) (answers : List Bool) (told : Bool)
     → Begins (take (length (uncheckedReading terms stream answers told) - 1) (uncheckedReading terms stream answers told))
+    (plainReading terms stream answers told)
+
+-- ---- request #104
+
+-- What was refused neither with 4 nor with 6, a good stream above all, gives the same events: "In other answers both are plain fields", and no line
+-- that was good has an `ouihash`.
+abbrev pub SameWhole : Type 0
+SameWhole =
+    (terms : Terms) (stream : List ℕ) (answers : List Bool) (told : Bool) → NeverRefused 4 (wholeOnlyReading terms stream answers told)
+    → NeverRefused 6 (wholeOnlyReading terms stream answers told)
+    → plainReading terms stream answers told ≡ wholeOnlyReading terms stream answers told
+
+-- And of any stream, all events of before but the last one are the first events of now: a part answer was refused with 4 before its first event, a
+-- line with `ouihash` with 6, and nothing that was released is lost.
+abbrev pub NoneLostWhole : Type 0
+NoneLostWhole =
+    (terms : Terms) (stream : List ℕ) (answers : List Bool) (told : Bool)
+    → Begins (take (length (wholeOnlyReading terms stream answers told) - 1) (wholeOnlyReading terms stream answers told))
     (plainReading terms stream answers told)

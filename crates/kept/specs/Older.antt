@@ -7,7 +7,7 @@ use lib.ListN.{take, drop}
 use Rattle.sections.specs.Reading.{Log, ask, granted}
 use Rattle.stream.specs.Events.{Question, Release, headAccepted, LastWord}
 use Rattle.stream.specs.Fields.{isDoubled, namesOf, valueOf}
-use Rattle.stream.specs.Head.{Head, headOf, statusDigits, headSignature, listedNames, trustedBy, textRules, callerRules}
+use Rattle.stream.specs.Head.{Head, headOf, statusDigits, signedStatus, headSignature, listedNames, trustedBy, textRules, callerRules}
 use Rattle.stream.specs.Lines.{Field}
 use Rattle.stream.specs.Numbers.{decimalValue}
 use Rattle.stream.specs.Places.{headPlace}
@@ -37,7 +37,7 @@ olderSigned h = singleFields (h .fields) (listedFields (listedNames h))
 unfoldable pub olderString : Head → List ℕ
 olderString h =
     signingText
-    (record { name = responseStatusName; value = statusDigits h }
+    (record { name = responseStatusName; value = signedStatus h }
     ∷ record { name = createdName; value = createdText (h .sig0) }
     ∷ olderSigned h)
 

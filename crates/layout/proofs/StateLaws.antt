@@ -15,6 +15,8 @@ use lib.Dec.{leb}
 use lib.ListN.{length, drop, length-map}
 use lib.Seq.{sets, sets-eq, length-sets, drop-at}
 use Rattle.octets.specs.Choice.{pick}
+use Rattle.ranges.specs.declared.extent.Extent.{Extent}
+use Rattle.ranges.specs.declared.extent.Extent.the-variants as E
 use Rattle.state.specs.declared.phase.Phase.{Phase}
 use Rattle.state.specs.declared.phase.Phase.the-variants as P
 use Rattle.state.specs.declared.reader.Chain.{Chain}
@@ -22,7 +24,7 @@ use Rattle.state.specs.declared.reader.Fixed.{Fixed}
 use Rattle.state.specs.declared.reader.Reader.{Reader}
 use Rattle.state.proofs.reader.Reader as declared
 use Rattle.packing.specs.Parts.{littleEndian, allBytes, numberAt}
-use Rattle.layout.specs.State.{stateSize, tagOf, firstOf, secondOf, refusalOf, phaseOf, phaseBytes, fixedBytes, chainBytes, bodyBytes, encoded, stored, fixedIn, chainIn, decoded}
+use Rattle.layout.specs.State.{stateSize, tagOf, firstOf, secondOf, refusalOf, phaseOf, kindOf, firstByteOf, lastByteOf, totalOf, InExtent, extentFrom, phaseBytes, fixedBytes, chainBytes, bodyBytes, extentBytes, encoded, stored, extentIn, fixedIn, chainIn, decoded}
 use Rattle.packing.proofs.PartLaws.{sets-next, long-next, long-bytes, long-all, concat, At, past, part-there, number-there, Words, none, more}
 use Rattle.layout.proofs.BodyLaws.{SoundBody, long-body, body-back}
 
@@ -46,8 +48,42 @@ module _ (f : Fixed) (id : length (f .id) ≡ 64) where
       let p = sets-next d l₁ l₂ (fixedFront f) (f .id) 24 32 56 e₁ long-front refl e₂ in
       sets-next d l₂ l₃ (fixedFront f ++ f .id) (littleEndian 8 (f .«id_length»)) 24 96 120 p long-id refl e₃
 
+-- ---- the extent
+
+pub long-extent : (e : Extent) → length (extentBytes e) ≡ 32
+long-extent e = long-all (kindOf e ∷ firstByteOf e ∷ lastByteOf e ∷ totalOf e ∷ [])
+
+kind-small : (e : Extent) → kindOf e < 2 ^ 64
+kind-small E.Whole = omega arith
+kind-small (E.Part first last total) = omega arith
+
+extent-same : (e : Extent) → extentFrom (kindOf e) (firstByteOf e) (lastByteOf e) (totalOf e) ≡ e
+unfolding extentFrom
+extent-same E.Whole = refl
+extent-same (E.Part first last total) = refl
+
+module _ {whole : List ℕ} {ss : List (List ℕ)} (x : Extent) (s : InExtent x) (e : At whole 472 (extentBytes x ∷ ss)) where
+  extent-parts : At whole 472 (littleEndian 8 (kindOf x) ∷ littleEndian 8 (firstByteOf x) ∷ littleEndian 8 (lastByteOf x) ∷ littleEndian 8 (totalOf x) ∷ ss)
+  unfolding allBytes concat
+  extent-parts = record { there = e .there ∙ (simp (append-assoc, append-nil)) }
+
+  extent-back : extentIn whole ≡ x
+  unfolding extentIn
+  extent-back =
+      let a₁ = past extent-parts 8 (long-bytes 8 _) in
+      let a₂ = past a₁ 8 (long-bytes 8 _) in
+      let a₃ = past a₂ 8 (long-bytes 8 _) in
+      rw (
+        number-there (kindOf x) extent-parts (kind-small x),
+        number-there (firstByteOf x) a₁ (s .first),
+        number-there (lastByteOf x) a₂ (s .last),
+        number-there (totalOf x) a₃ (s .total),
+      )
+      (extent-same x)
+
 -- numbers within their types, and arrays with their lengths, as every value in code has them
 pub record SoundFixed (f : Fixed) : Type 0 where
+  pub extent : InExtent (f .extent)
   pub accepted : f .accepted < 2 ^ 64
   pub status : f .status < 2 ^ 64
   pub size : f .«block_size» < 2 ^ 64
@@ -55,7 +91,8 @@ pub record SoundFixed (f : Fixed) : Type 0 where
   pub id : length (f .id) ≡ 64
   pub count : f .«id_length» < 2 ^ 64
 
-module _ {whole : List ℕ} {ss : List (List ℕ)} (f : Fixed) (s : SoundFixed f) (e : At whole 24 (fixedBytes f ∷ ss)) where
+module _ {whole : List ℕ} {ss ts : List (List ℕ)} (f : Fixed) (s : SoundFixed f) (e : At whole 24 (fixedBytes f ∷ ss))
+    (x : At whole 472 (extentBytes (f .extent) ∷ ts)) where
   fixed-parts : At whole 24 (littleEndian 8 (f .accepted) ∷ littleEndian 8 (f .status) ∷ littleEndian 8 (f .«block_size») ∷ littleEndian 8 (f .key) ∷ f .id ∷ littleEndian 8 (f .«id_length») ∷ ss)
   unfolding allBytes concat
   fixed-parts = record { there = e .there ∙ (simp (append-assoc, append-nil)) }
@@ -73,6 +110,7 @@ module _ {whole : List ℕ} {ss : List (List ℕ)} (f : Fixed) (s : SoundFixed f
         number-there (f .accepted) a₀ (s .accepted),
         number-there (f .status) a₁ (s .status),
         number-there (f .«block_size») a₂ (s .size),
+        extent-back (f .extent) (s .extent) x,
         number-there (f .key) a₃ (s .key),
         part-there a₄ 64 (s .id),
         number-there (f .«id_length») a₅ (s .count),
@@ -162,9 +200,12 @@ withChain r = withFixed r ++ chainBytes (r .chain)
 abbrev withLine : Reader → List ℕ
 withLine r = withChain r ++ r .line
 
--- all but the body
+-- all but the body and the extent; all but the extent
 abbrev withReleased : Reader → List ℕ
 withReleased r = withLine r ++ littleEndian 8 (r .released)
+
+abbrev withBody : Reader → List ℕ
+withBody r = withReleased r ++ bodyBytes (r .chain .body)
 
 module _ (r : Reader) (id : length (r .fixed .id) ≡ 64) (hash : length (r .chain .hash) ≡ 64) (line : length (r .line) ≡ 128) where
   long-phase : length (phaseBytes (r .phase)) ≡ 24
@@ -182,18 +223,22 @@ module _ (r : Reader) (id : length (r .fixed .id) ≡ 64) (hash : length (r .cha
   long-released : length (withReleased r) ≡ 336
   long-released = long-next (withLine r) (littleEndian 8 (r .released)) 328 8 336 long-line (long-bytes 8 (r .released)) refl
 
+  long-to-extent : SoundBody (r .chain .body) → length (withBody r) ≡ 472
+  long-to-extent s = long-next (withReleased r) (bodyBytes (r .chain .body)) 336 136 472 long-released (long-body (r .chain .body) s) refl
+
   pub long-encoded : SoundBody (r .chain .body) → length (encoded r) ≡ stateSize
   unfolding encoded
-  long-encoded s = long-next (withReleased r) (bodyBytes (r .chain .body)) 336 136 472 long-released (long-body (r .chain .body) s) refl
+  long-encoded s = long-next (withBody r) (extentBytes (r .fixed .extent)) 472 32 504 (long-to-extent s) (long-extent (r .fixed .extent)) refl
 
-  pub all-put : (d l₁ l₂ l₃ l₄ l₅ l₆ : List ℕ) → l₁ ≡ sets d 0 (phaseBytes (r .phase)) → l₂ ≡ sets l₁ 24 (fixedBytes (r .fixed)) → l₃ ≡ sets l₂ 128 (chainBytes (r .chain)) → l₄ ≡ sets l₃ 200 (r .line) → l₅ ≡ sets l₄ 328 (littleEndian 8 (r .released)) → l₆ ≡ sets l₅ 336 (bodyBytes (r .chain .body)) → l₆ ≡ sets d 0 (encoded r)
+  pub all-put : SoundBody (r .chain .body) → (d l₁ l₂ l₃ l₄ l₅ l₆ l₇ : List ℕ) → l₁ ≡ sets d 0 (phaseBytes (r .phase)) → l₂ ≡ sets l₁ 24 (fixedBytes (r .fixed)) → l₃ ≡ sets l₂ 128 (chainBytes (r .chain)) → l₄ ≡ sets l₃ 200 (r .line) → l₅ ≡ sets l₄ 328 (littleEndian 8 (r .released)) → l₆ ≡ sets l₅ 336 (bodyBytes (r .chain .body)) → l₇ ≡ sets l₆ 472 (extentBytes (r .fixed .extent)) → l₇ ≡ sets d 0 (encoded r)
   unfolding encoded
-  all-put d l₁ l₂ l₃ l₄ l₅ l₆ e₁ e₂ e₃ e₄ e₅ e₆ =
+  all-put s d l₁ l₂ l₃ l₄ l₅ l₆ l₇ e₁ e₂ e₃ e₄ e₅ e₆ e₇ =
       let p₂ = sets-next d l₁ l₂ (phaseBytes (r .phase)) (fixedBytes (r .fixed)) 0 24 24 e₁ long-phase refl e₂ in
       let p₃ = sets-next d l₂ l₃ (withFixed r) (chainBytes (r .chain)) 0 128 128 p₂ long-to-chain refl e₃ in
       let p₄ = sets-next d l₃ l₄ (withChain r) (r .line) 0 200 200 p₃ long-to-line refl e₄ in
       let p₅ = sets-next d l₄ l₅ (withLine r) (littleEndian 8 (r .released)) 0 328 328 p₄ long-line refl e₅ in
-      sets-next d l₅ l₆ (withReleased r) (bodyBytes (r .chain .body)) 0 336 336 p₅ long-released refl e₆
+      let p₆ = sets-next d l₅ l₆ (withReleased r) (bodyBytes (r .chain .body)) 0 336 336 p₅ long-released refl e₆ in
+      sets-next d l₆ l₇ (withBody r) (extentBytes (r .fixed .extent)) 0 472 472 p₆ (long-to-extent s) refl e₇
 
 pub record Sound (r : Reader) : Type 0 where
   pub phase : InRange (r .phase)
@@ -203,7 +248,7 @@ pub record Sound (r : Reader) : Type 0 where
   pub released : r .released < 2 ^ 64
 
 module _ (r : Reader) where
-  in-parts : (rest : List ℕ) → At (encoded r ++ rest) 0 (phaseBytes (r .phase) ∷ fixedBytes (r .fixed) ∷ chainBytes (r .chain) ∷ r .line ∷ littleEndian 8 (r .released) ∷ bodyBytes (r .chain .body) ∷ rest ∷ [])
+  in-parts : (rest : List ℕ) → At (encoded r ++ rest) 0 (phaseBytes (r .phase) ∷ fixedBytes (r .fixed) ∷ chainBytes (r .chain) ∷ r .line ∷ littleEndian 8 (r .released) ∷ bodyBytes (r .chain .body) ∷ extentBytes (r .fixed .extent) ∷ rest ∷ [])
   unfolding encoded concat
   in-parts rest = record { there = simp (append-assoc, append-nil) }
 
@@ -221,9 +266,10 @@ module _ (r : Reader) where
         let a₃ = past a₂ 72 (long-chain (r .chain) (s .chain .hash)) in
         let a₄ = past a₃ 128 (s .line) in
         let a₅ = past a₄ 8 (long-bytes 8 (r .released)) in
+        let a₆ = past a₅ 136 (long-body (r .chain .body) (s .chain .body)) in
         rw (
           phase-read (r .phase) (s .phase) a₀,
-          fixed-back (r .fixed) (s .fixed) a₁,
+          fixed-back (r .fixed) (s .fixed) a₁ a₆,
           chain-back (r .chain) (s .chain) a₂ a₅,
           part-there a₃ 128 (s .line),
           number-there (r .released) a₄ (s .released),
@@ -269,8 +315,8 @@ words-of [] us is = none
 words-of (w ∷ ws) [] is = absurd is
 words-of (w ∷ ws) (u ∷ us) is = more (is .0 .1) (words-of ws us (is .1))
 
-pub sound : (r : Reader) (vs : List Val) → Is declared.the-row r vs → InRange (r .phase) → Sound r
-sound r vs is p =
+pub sound : (r : Reader) (vs : List Val) → Is declared.the-row r vs → InRange (r .phase) → InExtent (r .fixed .extent) → Sound r
+sound r vs is p x =
     let f = is .1 .1 in
     let g = f .1 .0 .1 .1 in
     let c = f .1 .1 .0 .1 .1 in
@@ -279,12 +325,13 @@ sound r vs is p =
       phase = p;
       fixed =
           record {
+            extent = x;
             accepted = g .0 .1;
             status = g .1 .0 .1;
             size = g .1 .1 .0 .1;
-            key = g .1 .1 .1 .0 .1;
-            id = simp length-map at (g .1 .1 .1 .1 .0 .1 .0 .1);
-            count = g .1 .1 .1 .1 .1 .0 .1;
+            key = g .1 .1 .1 .1 .0 .1;
+            id = simp length-map at (g .1 .1 .1 .1 .1 .0 .1 .0 .1);
+            count = g .1 .1 .1 .1 .1 .1 .0 .1;
           };
       chain =
           record {

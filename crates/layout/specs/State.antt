@@ -1,10 +1,12 @@
 -- The reader's state as bytes. Assumes nothing.
 use mathlib.Core.List.{List, [], _∷_, _++_}
-use Prim.Native.Nat.{ℕ, _%_}
+use Prim.Native.Nat.{ℕ, _%_, _^_, _<_}
 use lib.Dec.{eqb, leb}
 use lib.ListN.{length}
 use lib.Seq.{sets}
 use Rattle.octets.specs.Choice.{pick}
+use Rattle.ranges.specs.declared.extent.Extent.{Extent}
+use Rattle.ranges.specs.declared.extent.Extent.the-variants.{Whole, Part}
 use Rattle.sha256.specs.declared.Midstate.{Midstate}
 use Rattle.stream.specs.Limits.{idLimit, lineLimit}
 use Rattle.state.specs.declared.phase.Phase.{Phase}
@@ -16,7 +18,7 @@ use Rattle.packing.specs.Parts.{littleEndian, allBytes, part, numberAt, wordsAt
 
 -- how many bytes a state takes
 abbrev pub stateSize : ℕ
-stateSize = 472
+stateSize = 504
 
 -- ---- a phase as three numbers
 
@@ -93,13 +95,41 @@ phaseOf tag a b =
     (pick (eqb tag 10) (P.EndAsked a b)
     (pick (eqb tag 11) (P.Complete a) (P.Refused 0))))))))))))
 
+-- ---- an extent as four numbers: 1 for a part, else 0; the first byte, the last, and how many there are in all
+
+abbrev pub kindOf : Extent → ℕ
+kindOf Whole = 0
+kindOf (Part first last total) = 1
+
+abbrev pub firstByteOf : Extent → ℕ
+firstByteOf Whole = 0
+firstByteOf (Part first last total) = first .0
+
+abbrev pub lastByteOf : Extent → ℕ
+lastByteOf Whole = 0
+lastByteOf (Part first last total) = last .0
+
+abbrev pub totalOf : Extent → ℕ
+totalOf Whole = 0
+totalOf (Part first last total) = total
+
+-- each is a number of 64 bits
+pub record InExtent (e : Extent) : Type 0 where
+  pub first : firstByteOf e < 2 ^ 64
+  pub last : lastByteOf e < 2 ^ 64
+  pub total : totalOf e < 2 ^ 64
+
+-- any other kind is the whole
+unfoldable pub extentFrom : ℕ → ℕ → ℕ → ℕ → Extent
+extentFrom kind first last total = pick (eqb kind 1) (Part (record { 0 = first }) (record { 0 = last }) total) Whole
+
 -- ---- the whole state
 
 -- a tag and two counts
 abbrev pub phaseBytes : Phase → List ℕ
 phaseBytes p = allBytes (tagOf p ∷ firstOf p ∷ secondOf p ∷ [])
 
--- what the head fixed; the id stands before its length
+-- what the head fixed, but for the extent; the id stands before its length
 abbrev pub fixedBytes : Fixed → List ℕ
 fixedBytes f = allBytes (f .accepted ∷ f .status ∷ f .«block_size» ∷ f .key ∷ []) ++ f .id ++ littleEndian 8 (f .«id_length»)
 
@@ -111,23 +141,31 @@ chainBytes c = littleEndian 8 (c .number .0) ++ c .hash
 abbrev pub bodyBytes : Midstate → List ℕ
 bodyBytes h = allBytes (h .words) ++ h .rest ++ littleEndian 8 (h .count)
 
--- one after the other, what is released, and the body, which came last (request #101) and moved nothing
+abbrev pub extentBytes : Extent → List ℕ
+extentBytes e = allBytes (kindOf e ∷ firstByteOf e ∷ lastByteOf e ∷ totalOf e ∷ [])
+
+-- one after the other, what is released, and then what requests #101 and #104 brought, which moved nothing: the body, and the extent
 unfoldable pub encoded : Reader → List ℕ
 encoded r =
     phaseBytes (r .phase) ++ fixedBytes (r .fixed) ++ chainBytes (r .chain) ++ r .line ++ littleEndian 8 (r .released)
     ++ bodyBytes (r .chain .body)
+    ++ extentBytes (r .fixed .extent)
 
 -- written over the front of a buffer; one that is too short is left as it is
 unfoldable pub stored : Reader → List ℕ → List ℕ
 stored r l = pick (leb stateSize (length l)) (sets l 0 (encoded r)) l
 
 -- what any bytes say
+unfoldable pub extentIn : List ℕ → Extent
+extentIn l = extentFrom (numberAt l 472) (numberAt l 480) (numberAt l 488) (numberAt l 496)
+
 unfoldable pub fixedIn : List ℕ → Fixed
 fixedIn l =
     record {
       accepted = numberAt l 24;
       status = numberAt l 32;
       «block_size» = numberAt l 40;
+      extent = extentIn l;
       key = numberAt l 48;
       id = part l 56 idLimit;
       «id_length» = numberAt l 120;

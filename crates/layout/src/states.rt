@@ -1,4 +1,5 @@
 // The whole state: read from any bytes, and written over the front of a buffer.
+use crate::extents;
 use crate::phases::first;
 use crate::phases::phase;
 use crate::phases::second;
@@ -13,6 +14,7 @@ use packing::put_number;
 use packing::put_numbers;
 use packing::put_words;
 use packing::words_at;
+use ranges::Extent;
 use sha256::Midstate;
 use state::Chain;
 use state::Fixed;
@@ -23,10 +25,10 @@ ghost use Prim.Native.Nat.{_≤_};
 ghost use lib.ListN.{length};
 ghost use lib.Seq.{sets};
 ghost use Rattle.packing.specs.Parts.{numberAt};
-ghost use Rattle.layout.specs.State.{stateSize, phaseOf, fixedBytes, chainBytes, bodyBytes, encoded, stored, fixedIn, bodyIn, chainIn, decoded};
+ghost use Rattle.layout.specs.State.{stateSize, phaseOf, fixedBytes, chainBytes, bodyBytes, extentBytes, InExtent, encoded, stored, extentIn, fixedIn, bodyIn, chainIn, decoded};
 
 // How many bytes a state takes.
-pub const STATE_SIZE: usize = 472;
+pub const STATE_SIZE: usize = 504;
 
 fn phase_at(state: &[u8]) -> Phase
     ensures { λ r. ⌜ r ≡ phaseOf (numberAt (now (state .entry)) 0) (numberAt (now (state .entry)) 8) (numberAt (now (state .entry)) 16) ⌝ }
@@ -38,6 +40,17 @@ fn phase_at(state: &[u8]) -> Phase
     )
 }
 
+fn extent_at(state: &[u8]) -> Extent
+    ensures { λ e. ⌜ e ≡ extentIn (now (state .entry)) ⌝ }
+{
+    extents::extent(
+        number_at(state, 472),
+        number_at(state, 480),
+        number_at(state, 488),
+        number_at(state, 496),
+    )
+}
+
 fn fixed_at(state: &[u8]) -> Fixed
     ensures { λ f. ⌜ f ≡ fixedIn (now (state .entry)) ⌝ }
 {
@@ -45,6 +58,7 @@ fn fixed_at(state: &[u8]) -> Fixed
         accepted: number_at(state, 24) as usize,
         status: number_at(state, 32),
         block_size: number_at(state, 40) as usize,
+        extent: extent_at(state),
         key: number_at(state, 48) as usize,
         id: bytes_64(state, 56),
         id_length: number_at(state, 120) as usize,
@@ -84,7 +98,7 @@ pub fn load(state: &[u8]) -> Reader
     }
 }
 
-// What the head fixed, the chain but for its body, and the body, each at its place. That an array has its length is said beside where
+// What the head fixed but for the extent, the chain but for its body, the body, and the extent, each at its place. That an array has its length is said beside where
 // something stands behind the part.
 fn put_fixed(f: Fixed, state: &mut [u8])
     ensures { λ _. ⌜ (now (state .exit) ≡ sets (now (state .entry)) 24 (fixedBytes f)) × (length (f .id) ≡ 64) ⌝ }
@@ -120,6 +134,18 @@ fn put_body(h: Midstate, state: &mut [u8])
     put_number(state, 464, h.count);
 }
 
+fn put_extent(e: Extent, state: &mut [u8])
+    ensures { λ _. ⌜ (now (state .exit) ≡ sets (now (state .entry)) 472 (extentBytes e)) × InExtent e ⌝ }
+{
+    let numbers = [
+        extents::kind(e),
+        extents::first_byte(e),
+        extents::last_byte(e),
+        extents::total(e),
+    ];
+    put_numbers(state, 472, &numbers);
+}
+
 // All parts, one after the other. What is then read is the state.
 fn put_all(r: Reader, state: &mut [u8])
     requires { ⌜ stateSize ≤ length (now state) ⌝ }
@@ -127,6 +153,7 @@ fn put_all(r: Reader, state: &mut [u8])
 {
     let p = r.phase;
     let fixed = r.fixed;
+    let extent = fixed.extent;
     let chain = r.chain;
     let body = chain.body;
     let line = r.line;
@@ -136,6 +163,7 @@ fn put_all(r: Reader, state: &mut [u8])
     put_128(state, 200, line);
     put_number(state, 328, r.released as u64);
     put_body(body, state);
+    put_extent(extent, state);
 }
 
 // Writes the state over the front of the buffer. A buffer that is too short is left as it is. `whole` says every byte, and `back`

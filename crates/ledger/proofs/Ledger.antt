@@ -12,19 +12,20 @@ use Rattle.base64.specs.Base64.{isBase64, letterValue, holdsThree, holdsTwo, ho
 use Rattle.hash.specs.Sha2.{bigEndian, padding, padded, number, parsed, schedule, round, rounds, sums, compressed, hashed, unparsed, digest}
 use Rattle.hash.specs.Sha512.{roundWords, sha512}
 use Rattle.sections.specs.Reading.{Event, question, message, last, Log, cut, sections, readingAt, reading}
-use Rattle.stream.specs.Blocks.{isWholeLine, carriesSignature, isChunkLine, chunkSize, lineSignature, lineRules, lineFault, chained, blockMessage}
+use Rattle.stream.specs.Blocks.{isWholeLine, carriesSignature, isChunkLine, chunkSize, lineSignature, lineRules, lineFault, chained, blockMessage, carriesHash, isExtension, isHashDue, lineHash}
 use Rattle.stream.specs.Bytes.{all, same, lowered, sameName}
-use Rattle.stream.specs.Ends.{allFields, isClaimed}
+use Rattle.stream.specs.Ends.{allFields, isClaimed, isChecked}
 use Rattle.stream.specs.Events.{Question, Release, headAccepted, block, LastWord, closed, complete, refused}
 use Rattle.stream.specs.Fields.{among, isDoubled, isProtected, isProtectedDoubled, namesOf, hasField, valueOf, valuesOf}
-use Rattle.stream.specs.Head.{endsHead, isWholeHead, headWith, headOf, statusDigits, injectionId, injectionTime, blockSize, blockKey, headKey, listedNames, headSignature, signedOf, signingString, trustedBy, textRules, callerRules, headFault}
+use Rattle.stream.specs.Head.{endsHead, isWholeHead, headWith, headOf, statusDigits, injectionId, injectionTime, blockSize, blockKey, headKey, listedNames, headSignature, signedOf, signingString, trustedBy, textRules, callerRules, headFault, isPartial, isRanged, rangeOf, signedStatus}
 use Rattle.stream.specs.Lines.{endsWith, lines, beforeEmpty, textLines, trimmed, fieldScan, isFieldLine, fieldOf, areFieldLines, fieldsOf, statusScan, isStatusLine, statusOf}
 use Rattle.stream.specs.Numbers.{numberFrom, hexValue, isDecimal, isHexNumber, decimalWithin, decimal}
+use Rattle.stream.specs.Range.{whole, firstByte, isWithin}
 use Rattle.stream.specs.Ring.{Ring, fits, firstFrom, found}
 use Rattle.stream.specs.Rule.{firstBroken}
 use Rattle.stream.specs.Signatures.{injectionScan, isInjection, bsigsScan, isBsigs, sig0Scan, isSig0, splitNames, areFields, isNameList}
 use Rattle.stream.specs.Signing.{separated, signedFields, joinedFields, signingLine, signingText}
-use Rattle.stream.specs.Stream.{Show, nothing, firstLine, nextLine, trailer, isWhole, showOf, headQuestion, acceptHead, judgeHead, judgeFirstLine, judgeDataEnd, blockQuestion, acceptBlock, judgeNextLine, judgeEnd, judgeTrailer, judge, rules, plainReading}
+use Rattle.stream.specs.Stream.{Show, nothing, firstLine, nextLine, trailer, isWhole, showOf, headQuestion, acceptHead, judgeHead, judgeFirstLine, judgeDataEnd, blockQuestion, acceptBlock, judgeNextLine, judgeEnd, judgeTrailer, judge, rules, plainReading, releasedWith, startFrom, startOf}
 use Rattle.stream.specs.Template.{run, past, startsWith, scan}
 use Rattle.stream.specs.Terms.{Terms}
 use Rattle.stream.specs.Trailer.{endsTrailer, isWholeTrailer, isTrailer}
@@ -67,13 +68,13 @@ placed [] = []
 placed (x ∷ log) = x .0 ∷ told (x .1) ++ placed log
 
 -- the messages that are asked about, and the bytes that are released
-abbrev asked : Log Question Release LastWord → List ℕ
+abbrev pub asked : Log Question Release LastWord → List ℕ
 asked [] = []
 asked ((at, question q) ∷ log) = q .message ++ asked log
 asked ((at, message e) ∷ log) = asked log
 asked ((at, last l) ∷ log) = asked log
 
-abbrev released : Log Question Release LastWord → List ℕ
+abbrev pub released : Log Question Release LastWord → List ℕ
 released [] = []
 released ((at, question q) ∷ log) = released log
 released ((at, message (headAccepted status signed)) ∷ log) = released log
@@ -118,10 +119,10 @@ headLines =
     ∷ []
 
 -- where each line stands
-abbrev status : ℕ
+abbrev pub status : ℕ
 status = 0
 
-abbrev version : ℕ
+abbrev pub version : ℕ
 version = 1
 
 abbrev uri : ℕ
@@ -139,7 +140,7 @@ type = 5
 abbrev pub sig0s : ℕ
 sig0s = 6
 
-abbrev bsigss : ℕ
+abbrev pub bsigss : ℕ
 bsigss = 7
 
 abbrev coding : ℕ
@@ -148,21 +149,21 @@ coding = 8
 abbrev pub put : ℕ → List ℕ → List (List ℕ) → List (List ℕ)
 put k l ls = set ls k l
 
-abbrev without : ℕ → List (List ℕ) → List (List ℕ)
+abbrev pub without : ℕ → List (List ℕ) → List (List ℕ)
 without k ls = take k ls ++ drop (suc k) ls
 
 -- the terms with this URI, or with this ring
-abbrev asking : String → Terms
+abbrev pub asking : String → Terms
 asking s = record { ring = terms .ring; uri = octets s }
 
 abbrev pub trusting : Ring → Terms
 trusting r = record { ring = r; uri = terms .uri }
 
 -- the refusal's number, 0 where the head is good
-abbrev faultBy : Terms → List (List ℕ) → List ℕ
+abbrev pub faultBy : Terms → List (List ℕ) → List ℕ
 faultBy t ls = headFault t (asLines ls) ∷ []
 
-abbrev fault : List (List ℕ) → List ℕ
+abbrev pub fault : List (List ℕ) → List ℕ
 fault ls = faultBy terms ls
 
 -- of heads with one line changed
@@ -223,7 +224,7 @@ show = record { id = octets "abc"; size = 5; keyNumber = 7; head = headOf [] }
 abbrev body : List Bool → Bool → List ℕ → List ℕ
 body answers end bytes = placed (reading (rules noTerms) (firstLine show) bytes answers end)
 
-abbrev yes : List Bool
+abbrev pub yes : List Bool
 yes = true ∷ true ∷ true ∷ []
 
 abbrev pub hello : List ℕ
@@ -232,7 +233,7 @@ hello = octets "5\r\nHello\r\n"
 -- first lines, and lines after the block `Hello`, each by itself
 abbrev firstLines : List String → List ℕ
 firstLines [] = []
-firstLines (s ∷ ss) = lineFault 5 false true 0 (octets s ++ octets "\r\n") ∷ firstLines ss
+firstLines (s ∷ ss) = lineFault 5 whole false true 0 (octets s ++ octets "\r\n") ∷ firstLines ss
 
 abbrev pub signed : String → List ℕ
 signed s = signedLine (octets s)
@@ -562,12 +563,12 @@ pub blockRules : List Row
 blockRules =
     -- blocks
     row 18 "order at a line: 6, 8, 7, 9"
-    (lineFault 5 false true 0 (octets "5;ouisig=" ++ replicate 88 61 ++ octets "\r\n")
-    ∷ lineFault 5 false true 0 (signed "6")
-    ∷ lineFault 5 true true 5 (octets "6\r\n")
-    ∷ lineFault 5 true true 4_294_967_295 (signed "6")
-    ∷ lineFault 5 true false 4_294_967_295 (signed "5")
-    ∷ lineFault 5 true true 4_294_967_295 (signed "5")
+    (lineFault 5 whole false true 0 (octets "5;ouisig=" ++ replicate 88 61 ++ octets "\r\n")
+    ∷ lineFault 5 whole false true 0 (signed "6")
+    ∷ lineFault 5 whole true true 5 (octets "6\r\n")
+    ∷ lineFault 5 whole true true 4_294_967_295 (signed "6")
+    ∷ lineFault 5 whole true false 4_294_967_295 (signed "5")
+    ∷ lineFault 5 whole true true 4_294_967_295 (signed "5")
     ∷ [])
     (6 ∷ 8 ∷ 8 ∷ 7 ∷ 7 ∷ 9 ∷ [])
     ∷ row 18 "on a refusal the block before is not asked about"
@@ -583,9 +584,9 @@ blockRules =
     (body yes false (signed "5") ++ body yes false (signed "0") ++ body yes false (hello ++ octets "5\r\n") ++ body yes false (hello ++ octets "0\r\n"))
     (99 ∷ 5 ∷ 8 ∷ 99 ∷ 5 ∷ 8 ∷ 13 ∷ 5 ∷ 8 ∷ 13 ∷ 5 ∷ 8 ∷ [])
     ∷ row 21 "a body of 4,294,967,296 bytes is good, one more is 9; the offset is in bytes"
-    (lineFault 65_536 true true 4_294_901_760 (signed "10000")
-    ∷ lineFault 65_536 true true 4_294_901_761 (signed "10000")
-    ∷ lineFault 65_536 true true 4_294_967_296 (signed "0")
+    (lineFault 65_536 whole true true 4_294_901_760 (signed "10000")
+    ∷ lineFault 65_536 whole true true 4_294_901_761 (signed "10000")
+    ∷ lineFault 65_536 whole true true 4_294_967_296 (signed "0")
     ∷ placed (reading (rules noTerms) (nextLine show (record { blocks = 858_993_458; hash = replicate 64 1; body = [] }) (octets "Hello")) (signed "1") yes false)
     ++ placed (reading (rules noTerms) (nextLine show (record { blocks = 858_993_458; hash = replicate 64 1; body = [] }) (octets "Hello")) (signed "2") yes false))
     (0 ∷ 9 ∷ 0 ∷ 99 ∷ 1 ∷ 79 ∷ 7 ∷ 99 ∷ 3 ∷ 4_294_967_290 ∷ 5 ∷ 99 ∷ 5 ∷ 9 ∷ [])
@@ -594,16 +595,16 @@ blockRules =
     ∷ row 22 "every hex digit of either case" (chunkSize (octets "01234567\r\n") ∷ chunkSize (octets "89aBcDeF\r\n") ∷ chunkSize (octets "fEdCbA98\r\n") ∷ [])
     (19_088_743 ∷ 2_309_737_967 ∷ 4_275_878_552 ∷ [])
     ∷ row 22 "what follows the size"
-    (lineFault 5 true true 5 (octets "5;OUISIG=" ++ signature ++ octets "\r\n")
-    ∷ lineFault 5 true true 5 (octets ";ouisig=" ++ signature ++ octets "\r\n")
-    ∷ lineFault 5 true true 5 (octets "5; ouisig=" ++ signature ++ octets "\r\n")
-    ∷ lineFault 5 true true 5 (octets "5 ;ouisig=" ++ signature ++ octets "\r\n")
-    ∷ lineFault 5 true true 5 (octets "5;ouisig=" ++ signature ++ octets " \r\n")
-    ∷ lineFault 5 true true 5 (octets "5;ouisig=" ++ signature ++ octets ";a\r\n")
-    ∷ lineFault 5 true true 5 (octets "5;ouisig=" ++ replicate 85 65 ++ octets "B==\r\n")
-    ∷ lineFault 5 true true 5 (octets "5;ouisig=" ++ replicate 88 65 ++ octets "\r\n")
-    ∷ lineFault 5 true true 5 (octets "5;ouisig=\"" ++ signature ++ octets "\"\r\n")
-    ∷ lineFault 5 true true 5 (signed "00000005")
+    (lineFault 5 whole true true 5 (octets "5;OUISIG=" ++ signature ++ octets "\r\n")
+    ∷ lineFault 5 whole true true 5 (octets ";ouisig=" ++ signature ++ octets "\r\n")
+    ∷ lineFault 5 whole true true 5 (octets "5; ouisig=" ++ signature ++ octets "\r\n")
+    ∷ lineFault 5 whole true true 5 (octets "5 ;ouisig=" ++ signature ++ octets "\r\n")
+    ∷ lineFault 5 whole true true 5 (octets "5;ouisig=" ++ signature ++ octets " \r\n")
+    ∷ lineFault 5 whole true true 5 (octets "5;ouisig=" ++ signature ++ octets ";a\r\n")
+    ∷ lineFault 5 whole true true 5 (octets "5;ouisig=" ++ replicate 85 65 ++ octets "B==\r\n")
+    ∷ lineFault 5 whole true true 5 (octets "5;ouisig=" ++ replicate 88 65 ++ octets "\r\n")
+    ∷ lineFault 5 whole true true 5 (octets "5;ouisig=\"" ++ signature ++ octets "\"\r\n")
+    ∷ lineFault 5 whole true true 5 (signed "00000005")
     ∷ [])
     (6 ∷ 6 ∷ 6 ∷ 6 ∷ 6 ∷ 6 ∷ 6 ∷ 6 ∷ 6 ∷ 0 ∷ [])
     ∷ row 23 "document 000's messages: id, offset in bytes, and the chain of hashes, each over the 64 bytes of the one before"
@@ -646,15 +647,15 @@ hashes =
     ∷ []
 
 headTexts-hold : broken 0 headTexts ≡ []
-unfolding headTexts isBase64 letterValue holdsThree holdsTwo holdsOne joinedLetters base64Bytes cut sections readingAt reading isWholeLine carriesSignature isChunkLine chunkSize lineSignature lineRules lineFault chained blockMessage all same lowered sameName among isDoubled isProtected isProtectedDoubled namesOf hasField valueOf valuesOf endsHead isWholeHead headWith headOf statusDigits injectionId injectionTime blockSize blockKey headKey listedNames headSignature signedOf signingString trustedBy textRules callerRules headFault endsWith lines beforeEmpty textLines trimmed fieldScan isFieldLine fieldOf areFieldLines fieldsOf statusScan isStatusLine statusOf numberFrom isDecimal isHexNumber decimalWithin decimal fits firstFrom found firstBroken injectionScan isInjection bsigsScan isBsigs sig0Scan isSig0 splitNames areFields isNameList separated signedFields joinedFields signingLine signingText isWhole showOf headQuestion acceptHead judgeHead judgeFirstLine judgeDataEnd blockQuestion acceptBlock judgeNextLine allFields isClaimed judgeEnd judgeTrailer judge rules plainReading bigEndian padding padded number parsed schedule round rounds sums compressed hashed unparsed digest roundWords sha512 run past startsWith scan endsTrailer isWholeTrailer isTrailer
+unfolding headTexts isBase64 letterValue holdsThree holdsTwo holdsOne joinedLetters base64Bytes cut sections readingAt reading isWholeLine carriesSignature isChunkLine chunkSize lineSignature lineRules lineFault chained blockMessage all same lowered sameName among isDoubled isProtected isProtectedDoubled namesOf hasField valueOf valuesOf endsHead isWholeHead headWith headOf statusDigits injectionId injectionTime blockSize blockKey headKey listedNames headSignature signedOf signingString trustedBy textRules callerRules headFault endsWith lines beforeEmpty textLines trimmed fieldScan isFieldLine fieldOf areFieldLines fieldsOf statusScan isStatusLine statusOf numberFrom isDecimal isHexNumber decimalWithin decimal fits firstFrom found firstBroken injectionScan isInjection bsigsScan isBsigs sig0Scan isSig0 splitNames areFields isNameList separated signedFields joinedFields signingLine signingText isWhole showOf headQuestion acceptHead judgeHead judgeFirstLine judgeDataEnd blockQuestion acceptBlock judgeNextLine allFields isClaimed judgeEnd judgeTrailer judge rules plainReading bigEndian padding padded number parsed schedule round rounds sums compressed hashed unparsed digest roundWords sha512 run past startsWith scan endsTrailer isWholeTrailer isTrailer carriesHash isExtension lineHash isHashDue firstByte isWithin rangeOf isPartial signedStatus isRanged startFrom startOf releasedWith isChecked
 headTexts-hold = refl
 
 headRules-hold : broken 0 headRules ≡ []
-unfolding headRules isBase64 letterValue holdsThree holdsTwo holdsOne joinedLetters base64Bytes cut sections readingAt reading isWholeLine carriesSignature isChunkLine chunkSize lineSignature lineRules lineFault chained blockMessage all same lowered sameName among isDoubled isProtected isProtectedDoubled namesOf hasField valueOf valuesOf endsHead isWholeHead headWith headOf statusDigits injectionId injectionTime blockSize blockKey headKey listedNames headSignature signedOf signingString trustedBy textRules callerRules headFault endsWith lines beforeEmpty textLines trimmed fieldScan isFieldLine fieldOf areFieldLines fieldsOf statusScan isStatusLine statusOf numberFrom isDecimal isHexNumber decimalWithin decimal fits firstFrom found firstBroken injectionScan isInjection bsigsScan isBsigs sig0Scan isSig0 splitNames areFields isNameList separated signedFields joinedFields signingLine signingText isWhole showOf headQuestion acceptHead judgeHead judgeFirstLine judgeDataEnd blockQuestion acceptBlock judgeNextLine allFields isClaimed judgeEnd judgeTrailer judge rules plainReading bigEndian padding padded number parsed schedule round rounds sums compressed hashed unparsed digest roundWords sha512 run past startsWith scan endsTrailer isWholeTrailer isTrailer
+unfolding headRules isBase64 letterValue holdsThree holdsTwo holdsOne joinedLetters base64Bytes cut sections readingAt reading isWholeLine carriesSignature isChunkLine chunkSize lineSignature lineRules lineFault chained blockMessage all same lowered sameName among isDoubled isProtected isProtectedDoubled namesOf hasField valueOf valuesOf endsHead isWholeHead headWith headOf statusDigits injectionId injectionTime blockSize blockKey headKey listedNames headSignature signedOf signingString trustedBy textRules callerRules headFault endsWith lines beforeEmpty textLines trimmed fieldScan isFieldLine fieldOf areFieldLines fieldsOf statusScan isStatusLine statusOf numberFrom isDecimal isHexNumber decimalWithin decimal fits firstFrom found firstBroken injectionScan isInjection bsigsScan isBsigs sig0Scan isSig0 splitNames areFields isNameList separated signedFields joinedFields signingLine signingText isWhole showOf headQuestion acceptHead judgeHead judgeFirstLine judgeDataEnd blockQuestion acceptBlock judgeNextLine allFields isClaimed judgeEnd judgeTrailer judge rules plainReading bigEndian padding padded number parsed schedule round rounds sums compressed hashed unparsed digest roundWords sha512 run past startsWith scan endsTrailer isWholeTrailer isTrailer carriesHash isExtension lineHash isHashDue firstByte isWithin rangeOf isPartial signedStatus isRanged startFrom startOf releasedWith isChecked
 headRules-hold = refl
 
 blockRules-hold : broken 0 blockRules ≡ []
-unfolding blockRules isBase64 letterValue holdsThree holdsTwo holdsOne joinedLetters base64Bytes cut sections readingAt reading isWholeLine carriesSignature isChunkLine chunkSize lineSignature lineRules lineFault chained blockMessage all same lowered sameName among isDoubled isProtected isProtectedDoubled namesOf hasField valueOf valuesOf endsHead isWholeHead headWith headOf statusDigits injectionId injectionTime blockSize blockKey headKey listedNames headSignature signedOf signingString trustedBy textRules callerRules headFault endsWith lines beforeEmpty textLines trimmed fieldScan isFieldLine fieldOf areFieldLines fieldsOf statusScan isStatusLine statusOf numberFrom isDecimal isHexNumber decimalWithin decimal fits firstFrom found firstBroken injectionScan isInjection bsigsScan isBsigs sig0Scan isSig0 splitNames areFields isNameList separated signedFields joinedFields signingLine signingText isWhole showOf headQuestion acceptHead judgeHead judgeFirstLine judgeDataEnd blockQuestion acceptBlock judgeNextLine allFields isClaimed judgeEnd judgeTrailer judge rules plainReading bigEndian padding padded number parsed schedule round rounds sums compressed hashed unparsed digest roundWords sha512 run past startsWith scan endsTrailer isWholeTrailer isTrailer
+unfolding blockRules isBase64 letterValue holdsThree holdsTwo holdsOne joinedLetters base64Bytes cut sections readingAt reading isWholeLine carriesSignature isChunkLine chunkSize lineSignature lineRules lineFault chained blockMessage all same lowered sameName among isDoubled isProtected isProtectedDoubled namesOf hasField valueOf valuesOf endsHead isWholeHead headWith headOf statusDigits injectionId injectionTime blockSize blockKey headKey listedNames headSignature signedOf signingString trustedBy textRules callerRules headFault endsWith lines beforeEmpty textLines trimmed fieldScan isFieldLine fieldOf areFieldLines fieldsOf statusScan isStatusLine statusOf numberFrom isDecimal isHexNumber decimalWithin decimal fits firstFrom found firstBroken injectionScan isInjection bsigsScan isBsigs sig0Scan isSig0 splitNames areFields isNameList separated signedFields joinedFields signingLine signingText isWhole showOf headQuestion acceptHead judgeHead judgeFirstLine judgeDataEnd blockQuestion acceptBlock judgeNextLine allFields isClaimed judgeEnd judgeTrailer judge rules plainReading bigEndian padding padded number parsed schedule round rounds sums compressed hashed unparsed digest roundWords sha512 run past startsWith scan endsTrailer isWholeTrailer isTrailer carriesHash isExtension lineHash isHashDue firstByte isWithin rangeOf isPartial signedStatus isRanged startFrom startOf releasedWith isChecked
 blockRules-hold = refl
 
 hashes-hold : broken 0 hashes ≡ []

@@ -13,20 +13,21 @@ use Rattle.base64.specs.Base64.{isBase64, letterValue, holdsThree, holdsTwo, ho
 use Rattle.hash.specs.Sha2.{bigEndian, padding, padded, number, parsed, schedule, round, rounds, sums, compressed, hashed, unparsed, digest}
 use Rattle.hash.specs.Sha512.{roundWords, sha512}
 use Rattle.sections.specs.Reading.{question, last, go, tell, ask, stop, granted, final, judged, cut, sections, readingAt, reading}
-use Rattle.stream.specs.Blocks.{isWholeLine, carriesSignature, isChunkLine, chunkSize, lineSignature, lineRules, lineFault, chained, blockMessage}
+use Rattle.stream.specs.Blocks.{isWholeLine, carriesSignature, isChunkLine, chunkSize, lineSignature, lineRules, lineFault, chained, blockMessage, carriesHash, isExtension, isHashDue, lineHash}
 use Rattle.stream.specs.Buffers.{withSection, pending, withLastWord}
 use Rattle.stream.specs.Bytes.{all, same, lowered, sameName}
-use Rattle.stream.specs.Ends.{allFields, isClaimed, isDigest, digestBytes, endsIn, sameNames, isEndList, endRules, endFault, endString}
+use Rattle.stream.specs.Ends.{allFields, isClaimed, isDigest, digestBytes, endsIn, sameNames, isEndList, endRules, endFault, endString, isChecked}
 use Rattle.stream.specs.Events.{LastWord, closed, complete, refused}
 use Rattle.stream.specs.Fields.{among, isDoubled, isProtected, isProtectedDoubled, namesOf, hasField, valueOf, valuesOf}
-use Rattle.stream.specs.Head.{Head, endsHead, isWholeHead, headWith, headOf, statusDigits, injectionId, injectionTime, blockSize, blockKey, headKey, listedNames, headSignature, signedOf, signingString, trustedBy, textRules, callerRules, headFault}
+use Rattle.stream.specs.Head.{Head, endsHead, isWholeHead, headWith, headOf, statusDigits, injectionId, injectionTime, blockSize, blockKey, headKey, listedNames, headSignature, signedOf, signingString, trustedBy, textRules, callerRules, headFault, isPartial, isRanged, rangeOf, signedStatus}
 use Rattle.stream.specs.Lines.{endsWith, lines, beforeEmpty, textLines, trimmed, fieldScan, isFieldLine, fieldOf, areFieldLines, fieldsOf, statusScan, isStatusLine, statusOf}
 use Rattle.stream.specs.Numbers.{numberFrom, isDecimal, isHexNumber, decimalWithin, decimal}
+use Rattle.stream.specs.Range.{firstByte, isWithin}
 use Rattle.stream.specs.Ring.{Ring, fits, firstFrom, found}
 use Rattle.stream.specs.Rule.{firstBroken}
 use Rattle.stream.specs.Signatures.{injectionScan, isInjection, bsigsScan, isBsigs, sig0Scan, isSig0, splitNames, areFields, isNameList}
 use Rattle.stream.specs.Signing.{separated, signedFields, joinedFields, signingLine, signingText}
-use Rattle.stream.specs.Stream.{Past, nothing, after, trailer, isWhole, Says, showOf, headQuestion, acceptHead, judgeHead, judgeFirstLine, judgeDataEnd, blockQuestion, acceptBlock, judgeNextLine, endQuestion, judgeEnd, judgeTrailer, judge, rules, plainReading}
+use Rattle.stream.specs.Stream.{Past, nothing, after, trailer, isWhole, Says, showOf, headQuestion, acceptHead, judgeHead, judgeFirstLine, judgeDataEnd, blockQuestion, acceptBlock, judgeNextLine, endQuestion, judgeEnd, judgeTrailer, judge, rules, plainReading, releasedWith, startFrom, startOf}
 use Rattle.stream.specs.Template.{run, past, startsWith, scan}
 use Rattle.stream.specs.Trailer.{endsTrailer, isWholeTrailer, isTrailer}
 use Rattle.stream.proofs.Example.{key, signature, terms}
@@ -333,5 +334,5 @@ endRows =
 
 -- Every row holds.
 pub ends-hold : broken 0 endRows ≡ []
-unfolding endRows withSection pending withLastWord allFields isClaimed isDigest digestBytes endsIn sameNames isEndList endRules endFault endString endQuestion isBase64 letterValue holdsThree holdsTwo holdsOne joinedLetters base64Bytes cut sections readingAt reading isWholeLine carriesSignature isChunkLine chunkSize lineSignature lineRules lineFault chained blockMessage all same lowered sameName among isDoubled isProtected isProtectedDoubled namesOf hasField valueOf valuesOf endsHead isWholeHead headWith headOf statusDigits injectionId injectionTime blockSize blockKey headKey listedNames headSignature signedOf signingString trustedBy textRules callerRules headFault endsWith lines beforeEmpty textLines trimmed fieldScan isFieldLine fieldOf areFieldLines fieldsOf statusScan isStatusLine statusOf numberFrom isDecimal isHexNumber decimalWithin decimal fits firstFrom found firstBroken injectionScan isInjection bsigsScan isBsigs sig0Scan isSig0 splitNames areFields isNameList separated signedFields joinedFields signingLine signingText isWhole showOf headQuestion acceptHead judgeHead judgeFirstLine judgeDataEnd blockQuestion acceptBlock judgeNextLine judgeEnd judgeTrailer judge rules plainReading bigEndian padding padded number parsed schedule round rounds sums compressed hashed unparsed digest roundWords sha512 run past startsWith scan endsTrailer isWholeTrailer isTrailer
+unfolding endRows withSection pending withLastWord allFields isClaimed isDigest digestBytes endsIn sameNames isEndList endRules endFault endString endQuestion isBase64 letterValue holdsThree holdsTwo holdsOne joinedLetters base64Bytes cut sections readingAt reading isWholeLine carriesSignature isChunkLine chunkSize lineSignature lineRules lineFault chained blockMessage all same lowered sameName among isDoubled isProtected isProtectedDoubled namesOf hasField valueOf valuesOf endsHead isWholeHead headWith headOf statusDigits injectionId injectionTime blockSize blockKey headKey listedNames headSignature signedOf signingString trustedBy textRules callerRules headFault endsWith lines beforeEmpty textLines trimmed fieldScan isFieldLine fieldOf areFieldLines fieldsOf statusScan isStatusLine statusOf numberFrom isDecimal isHexNumber decimalWithin decimal fits firstFrom found firstBroken injectionScan isInjection bsigsScan isBsigs sig0Scan isSig0 splitNames areFields isNameList separated signedFields joinedFields signingLine signingText isWhole showOf headQuestion acceptHead judgeHead judgeFirstLine judgeDataEnd blockQuestion acceptBlock judgeNextLine judgeEnd judgeTrailer judge rules plainReading bigEndian padding padded number parsed schedule round rounds sums compressed hashed unparsed digest roundWords sha512 run past startsWith scan endsTrailer isWholeTrailer isTrailer carriesHash isExtension lineHash isHashDue firstByte isWithin rangeOf isPartial signedStatus isRanged startFrom startOf releasedWith isChecked
 ends-hold = refl

@@ -3,3 +3,4 @@ pub mod LedgerCalls
 pub mod LedgerLimits
 pub mod LedgerEnds
 pub mod LedgerDigests
+pub mod LedgerParts

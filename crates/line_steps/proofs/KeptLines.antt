@@ -35,14 +35,14 @@ module _ (m out : List ℕ) where
 
 -- ---- the pushes
 
-kept-first : (d : Configuration) (a : LineAnswer) → Kept d (firstAnswered d a)
+kept-first : (d : Configuration) (a : LineAnswer) (carried : List ℕ) → Kept d (firstAnswered d a carried)
 unfolding firstAnswered
-kept-first d (A.Refused n) = kept-refuse n 0 d
-kept-first d (A.Good size) = kept-on d _ refl refl refl
+kept-first d (A.Refused n) carried = kept-refuse n 0 d
+kept-first d (A.Good size) carried = kept-on d _ refl refl refl
 
 kept-first-gathered : (d : Configuration) (n : ℕ) → Kept d (firstGathered d n)
 unfolding firstGathered
-kept-first-gathered d n = kept-pick d (isWholeLine (lineOf d n)) _ _ (kept-first d _) (kept-on d d refl refl refl)
+kept-first-gathered d n = kept-pick d (isWholeLine (lineOf d n)) _ _ (kept-first d _ _) (kept-on d d refl refl refl)
 
 pub kept-first-line : (d : Configuration) (have x : ℕ) → Kept d (pushFirstLine d have x)
 unfolding pushFirstLine

@@ -2,7 +2,7 @@
 -- line that is whole with it is judged; a good one asks about the block. Assumes nothing.
 use mathlib.Core.Bool.{true}
 use mathlib.Core.List.{List, []}
-use Prim.Native.Nat.{ℕ, _+_, min}
+use Prim.Native.Nat.{ℕ, _+_, _-_, min}
 use lib.Dec.{eqb, leb}
 use lib.ListN.{take, set}
 use Rattle.octets.specs.Choice.{pick}
@@ -22,7 +22,7 @@ use Rattle.state.specs.Configuration.{Configuration, configuration, withHash, l
 use Rattle.state.specs.declared.phase.Phase.the-variants as P
 use Rattle.state.specs.declared.reader.Reader.{Reader}
 use Rattle.state.specs.declared.word.Word.the-variants as W
-use Rattle.line_steps.specs.FirstLine.{tooLong, lineOf}
+use Rattle.line_steps.specs.FirstLine.{tooLong, lineOf, rangeNow, firstNow}
 
 -- where the block under way starts
 abbrev pub offsetNow : Reader → ByteOffset
@@ -32,8 +32,12 @@ offsetNow r = offsetAt (r .chain .number) (r .fixed .«block_size»)
 unfoldable pub bodyWith : Reader → ℕ → ℕ
 bodyWith r size = min (offsetNow r .0 + size) largest
 
+-- and how many of them this answer carries
+unfoldable pub releasedWith : Reader → ℕ → ℕ
+releasedWith r size = bodyWith r size - firstNow r
+
 unfoldable pub nextJudged : Reader → ℕ → List ℕ → Line
-nextJudged r size l = lineJudged (r .fixed .«block_size») true (eqb size (r .fixed .«block_size»)) (bodyWith r size) l
+nextJudged r size l = lineJudged (r .fixed .«block_size») (rangeNow r) true (eqb size (r .fixed .«block_size»)) (bodyWith r size) l
 
 -- the hash of the block, the first `size` bytes of the block buffer
 abbrev pub hashNow : Configuration → ℕ → List ℕ
@@ -62,7 +66,7 @@ nextAnswered d size (A.Good next) signature = asked d size next signature
 unfoldable pub nextGathered : Configuration → ℕ → ℕ → Next
 nextGathered d n size =
     pick (isWholeLine (lineOf d n))
-    (nextAnswered d size (nextJudged (d .reader) size (lineOf d n) .answer) (nextJudged (d .reader) size (lineOf d n) .signature))
+    (nextAnswered d size (nextJudged (d .reader) size (lineOf d n) .answer) (nextJudged (d .reader) size (lineOf d n) .carried))
     (on d)
 
 unfoldable pub pushNextLine : Configuration → ℕ → ℕ → ℕ → Next

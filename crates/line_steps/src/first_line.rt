@@ -2,19 +2,21 @@
 use chunk::LineAnswer;
 use limits::LINE_LIMIT;
 use refusals::Refusal;
+use state::Chain;
 use state::Phase;
 use state::Reader;
 use state::Stepped;
 use state::Word;
 use state::in_phase;
 use state::said;
+use state::with_chain;
 use state::with_line;
 ghost use mathlib.Core.List.{List};
 ghost use mathlib.Core.Path.{_≡_};
 ghost use Prim.Native.Nat.{ℕ, _≤_};
 ghost use Rattle.stream.specs.Blocks.{isWholeLine};
 ghost use Rattle.state.specs.Configuration.{configuration, nextOf};
-ghost use Rattle.line_steps.specs.FirstLine.{announced as announcedPhase, firstAnswered, firstGathered, pushFirstLine, tooLong};
+ghost use Rattle.line_steps.specs.FirstLine.{announced as announcedPhase, firstAnswered, firstGathered, pushFirstLine, starting, tooLong};
 
 // The refusal of a line that has no end within the limit.
 pub(crate) fn too_long() -> Refusal
@@ -42,16 +44,35 @@ pub fn announced(size: usize, total: u64) -> Phase
     Phase::Data { have: 0, size }
 }
 
+// The chain before the first block: from nothing, or, in the middle of a show, from the hash that the first line carries.
+fn started(r: Reader, hash: [u8; 64]) -> Chain
+    ensures { λ c. ⌜ c ≡ starting r hash ⌝ }
+{
+    let chain = r.chain;
+    let fixed = r.fixed;
+    let extent = fixed.extent;
+    let first = ranges::first_byte(extent);
+    if first.0 == 0 {
+        return chain;
+    }
+    let number = blocks::block_at(first, fixed.block_size as u64);
+    let body = chain.body;
+    Chain { number, hash, body }
+}
+
 // Before the first block nothing is pending, so that a refusal clears nothing.
-fn answer_first(r: Reader, answer: LineAnswer) -> Stepped
-    ensures { λ s. ⌜ ((h b q : List ℕ) → nextOf s h b q ≡ firstAnswered (configuration r h b q) answer) ⌝ }
+fn answer_first(r: Reader, answer: LineAnswer, carried: [u8; 64]) -> Stepped
+    ensures { λ s. ⌜ ((h b q : List ℕ) → nextOf s h b q ≡ firstAnswered (configuration r h b q) answer carried) ⌝ }
 {
     match answer {
         LineAnswer::Refused(why) => said(
             Word::Refused(why),
             in_phase(r, Phase::Refused(why.number)),
         ),
-        LineAnswer::Good { size } => said(Word::More, in_phase(r, announced(size as usize, 0))),
+        LineAnswer::Good { size } => said(
+            Word::More,
+            with_chain(r, announced(size as usize, 0), started(r, carried)),
+        ),
     }
 }
 
@@ -66,9 +87,12 @@ fn judge_first(r: Reader, n: usize) -> Stepped
     }
     let fixed = r.fixed;
     let size = fixed.block_size;
-    let judged = chunk::judge(&line[0..n], size, false, true, 0);
+    let extent = fixed.extent;
+    let first = ranges::first_byte(extent);
+    let judged = chunk::judge(&line[0..n], size, extent, false, true, first.0);
     let answer = judged.answer;
-    answer_first(r, answer)
+    let carried = judged.carried;
+    answer_first(r, answer, carried)
 }
 
 // A byte of the first chunk line, of which `have` bytes have come.

@@ -6,3 +6,4 @@ pub use first_line::announced;
 pub use first_line::push_first_line;
 pub use next_line::body_with;
 pub use next_line::push_next_line;
+pub use next_line::released_with;

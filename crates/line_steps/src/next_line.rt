@@ -17,7 +17,7 @@ ghost use mathlib.Core.Path.{_≡_};
 ghost use Prim.Native.Nat.{ℕ, _≤_};
 ghost use lib.ListN.{take};
 ghost use Rattle.state.specs.Configuration.{configuration, nextOf};
-ghost use Rattle.line_steps.specs.NextLine.{bodyWith, nextJudged, asked, nextAnswered, nextGathered, pushNextLine};
+ghost use Rattle.line_steps.specs.NextLine.{bodyWith, releasedWith, nextJudged, asked, nextAnswered, nextGathered, pushNextLine};
 
 const LARGEST: u64 = 0xffff_ffff_ffff_ffff;
 
@@ -37,6 +37,21 @@ pub fn body_with(r: Reader, size: usize) -> u64
     start + length
 }
 
+// How many of these the answer carries; in a state that no stream leads to, with none up to where it begins, 0.
+pub fn released_with(r: Reader, size: usize) -> u64
+    ensures { λ s. ⌜ s ≡ releasedWith r size ⌝ }
+{
+    let body = body_with(r, size);
+    let fixed = r.fixed;
+    let extent = fixed.extent;
+    let first = ranges::first_byte(extent);
+    let start = first.0;
+    if body < start {
+        return 0;
+    }
+    body - start
+}
+
 fn judge_line(r: Reader, n: usize, size: usize) -> Line
     requires { ⌜ n ≤ 128 ⌝ }
     ensures { λ l. ⌜ l ≡ nextJudged r size (take n (r .line)) ⌝ }
@@ -44,8 +59,16 @@ fn judge_line(r: Reader, n: usize, size: usize) -> Line
     let line = r.line;
     let fixed = r.fixed;
     let block_size = fixed.block_size;
+    let extent = fixed.extent;
     let body = body_with(r, size);
-    chunk::judge(&line[0..n], block_size, true, size == block_size, body)
+    chunk::judge(
+        &line[0..n],
+        block_size,
+        extent,
+        true,
+        size == block_size,
+        body,
+    )
 }
 
 // The question about the block under way, the first `size` bytes of the block buffer.
@@ -79,9 +102,9 @@ fn ask(
 }
 
 fn answer_next(r: Reader, block: &mut [u8], question: &mut [u8], size: usize, line: Line) -> Stepped
-    ensures { λ s. ⌜ ((h : List ℕ) → nextOf s h (now (block .exit)) (now (question .exit)) ≡ nextAnswered (configuration r h (now (block .entry)) (now (question .entry))) size (line .answer) (line .signature)) ⌝ }
+    ensures { λ s. ⌜ ((h : List ℕ) → nextOf s h (now (block .exit)) (now (question .exit)) ≡ nextAnswered (configuration r h (now (block .entry)) (now (question .entry))) size (line .answer) (line .carried)) ⌝ }
 {
-    let signature = line.signature;
+    let signature = line.carried;
     let answer = line.answer;
     match answer {
         LineAnswer::Refused(why) => refused(r, block, size, why),

@@ -17,7 +17,7 @@ use Rattle.stream.specs.Terms.{Terms}
 use Rattle.stream.specs.Head.{headOf}
 use Rattle.exactness.specs.Beginning.{Beginning, opening, onward, blocks, questions, withEnd}
 use Rattle.exactness.specs.ShowEvents.{goodWord, endEvents, showEvents}
-use Rattle.exactness.specs.Shows.{WholeShow, bodyOf, streamOf, Honest, claimsEnd, yesesOf, beginningOf}
+use Rattle.exactness.specs.Shows.{Sending, bodyOf, streamOf, Honest, claimsEnd, yesesOf, beginningOf}
 use Rattle.exactness.specs.Telling.{logOf, endAsks}
 use Rattle.exactness.proofs.Completeness.{show-complete}
 use Rattle.exactness.proofs.HonestShows.{show-written, show-blocks}
@@ -47,12 +47,12 @@ module _ (terms : Terms) where
       rw (e, append-assoc (logOf (terms .ring) w)) (log-closing w _ (asks (tells k)))
 
   -- the events of a show: those of its beginning, and those of its end
-  show-events : (s : WholeShow) → Honest terms s
+  show-events : (s : Sending) → Honest terms s
       → logOf (terms .ring) (beginningOf s) ++ endEvents (terms .ring) s (length (streamOf s)) (claimsEnd s) ≡ showEvents (terms .ring) s
   show-events s h = rw (← show-log terms s h, ← show-written s) (ap (λ (x : Log Question Release LastWord). logOf (terms .ring) (beginningOf s) ++ x) (sym (show-ending terms s)))
 
   -- a question about the end, where one is claimed, and the last word
-  end-closing : (s : WholeShow) (at : ℕ) (x : Bool) → EndsAt at (withEnd x 0) (endEvents (terms .ring) s at x)
+  end-closing : (s : Sending) (at : ℕ) (x : Bool) → EndsAt at (withEnd x 0) (endEvents (terms .ring) s at x)
   end-closing s at true = asks closes
   end-closing s at false = closes
 
@@ -60,28 +60,28 @@ module _ (terms : Terms) where
   with-end true n m e = omega arith
   with-end false n m e = omega arith
 
-  show-closing : (s : WholeShow) → Honest terms s → EndsAt (length (streamOf s)) (yesesOf s) (showEvents (terms .ring) s)
+  show-closing : (s : Sending) → Honest terms s → EndsAt (length (streamOf s)) (yesesOf s) (showEvents (terms .ring) s)
   show-closing s h =
       let e = with-end (claimsEnd s) (questions (beginningOf s)) (suc (length (s .chunks))) (ap suc (show-blocks s)) in
       rw (← show-events s h, ← e) (log-closing (beginningOf s) _ (end-closing s (length (streamOf s)) (claimsEnd s)))
 
   -- what comes before the last word
-  abbrev beforeLast : WholeShow → Bool → Log Question Release LastWord
+  abbrev beforeLast : Sending → Bool → Log Question Release LastWord
   beforeLast s true = logOf (terms .ring) (beginningOf s) ++ (length (streamOf s), question (endAsks (terms .ring) (headOf (s .head)) (s .trailer))) ∷ []
   beforeLast s false = logOf (terms .ring) (beginningOf s)
 
-  last-apart : (s : WholeShow) (x : Bool)
+  last-apart : (s : Sending) (x : Bool)
       → logOf (terms .ring) (beginningOf s) ++ endEvents (terms .ring) s (length (streamOf s)) x
       ≡ beforeLast s x ++ (length (streamOf s), last (goodWord x (length (bodyOf (s .chunks))))) ∷ []
   last-apart s true = sym (append-assoc (logOf (terms .ring) (beginningOf s)) _ _)
   last-apart s false = refl
 
-  show-read : (s : WholeShow) (others : List Bool) → Honest terms s
+  show-read : (s : Sending) (others : List Bool) → Honest terms s
       → plainReading terms (streamOf s) (replicate (yesesOf s) true ++ others) true ≡ showEvents (terms .ring) s
   show-read s others h = rw (append-nil (streamOf s)) at (show-complete terms s [] others true h)
 
   -- EVERY HONEST SHOW IS REACHED, however its stream is cut, and whatever answers would follow.
-  pub honest-reached : (s : WholeShow) (lengths : List ℕ) (others : List Bool) → Honest terms s
+  pub honest-reached : (s : Sending) (lengths : List ℕ) (others : List Bool) → Honest terms s
       → ComesOut terms s (showCalls terms lengths others s) (showOuts terms lengths others s)
   unfolding plainReading
   honest-reached s lengths others h =

@@ -1,4 +1,4 @@
--- What the ordinary caller is to get of an honest show. Assumes nothing.
+-- What the ordinary caller is to get of an honest show, or of an honest part of one (request #104). Assumes nothing.
 use mathlib.Core.Path.{_≡_}
 use mathlib.Core.Bool.{Bool, true}
 use mathlib.Core.List.{List, [], _∷_, _++_}
@@ -12,19 +12,19 @@ use Rattle.stream.specs.Events.{Question, Release, LastWord}
 use Rattle.stream.specs.Stream.{head, rules}
 use Rattle.stream.specs.Terms.{Terms}
 use Rattle.exactness.specs.ShowEvents.{goodWord, showEvents}
-use Rattle.exactness.specs.Shows.{WholeShow, bodyOf, streamOf, claimsEnd, yesesOf}
+use Rattle.exactness.specs.Shows.{Sending, bodyOf, streamOf, claimsEnd, yesesOf}
 use Rattle.reaching.specs.Driver.{callsOver}
 
 module _ (terms : Terms) where
   -- the caller's calls, for any lengths of the pieces, with a yes for the head, for each block and for a claimed end, and any answers
   -- more; and what they return
-  abbrev pub showCalls : List ℕ → List Bool → WholeShow → List Call
+  abbrev pub showCalls : List ℕ → List Bool → Sending → List Call
   showCalls lengths others s = callsOver (rules terms) head lengths (replicate (yesesOf s) true ++ others) (streamOf s)
 
-  abbrev pub showOuts : List ℕ → List Bool → WholeShow → List (Out Question Release LastWord)
+  abbrev pub showOuts : List ℕ → List Bool → Sending → List (Out Question Release LastWord)
   showOuts lengths others s = runCalls (rules terms) head (showCalls lengths others s)
 
-  pub record ComesOut (s : WholeShow) (ks : List Call) (os : List (Out Question Release LastWord)) : Type 0 where
+  pub record ComesOut (s : Sending) (ks : List Call) (os : List (Out Question Release LastWord)) : Type 0 where
     -- each piece begins at the first byte not taken
     pub resumes : Resumes (streamOf s) ks os
     -- all of the stream is taken

@@ -12,14 +12,13 @@ use lib.ListN.{length, drop, getD, drop-of-length-le}
 use lib.Seq.{drop-cons}
 use Rattle.octets.specs.Octets.{octets}
 use Rattle.base64.specs.Base64.{isBase64Letter}
-use Rattle.scanner.specs.Form.{Form, done, many, text, orElse, when, stepForm, mayEndForm}
+use Rattle.scanner.specs.Form.{Form, done, many, either, text, orElse, when, stepForm, mayEndForm}
 use Rattle.scanner.proofs.Joined.{then-when}
-use Rattle.stream.specs.Blocks.{ouisig}
 use Rattle.stream.specs.Bytes.{isHex, isDigit, isTchar, isText}
-use Rattle.stream.specs.Forms.{isMultiple, signatureForm, sizeForm, chunkForm, dataEndForm, nameForm, fieldForm, fieldLineForm, trailerForm}
+use Rattle.stream.specs.Forms.{isMultiple, signatureForm, extensionForm, sizeForm, chunkForm, dataEndForm, nameForm, fieldForm, fieldLineForm, trailerForm}
 use Rattle.scanning.specs.declared.state.State.{State}
-use Rattle.scanning.specs.declared.state.State.the-variants.{Line, Digits, Mark, Letters, Pads, Pad, Return, Version, Status, Lines, Field, FieldName, Value, LineFeed, Name, NameRest, End}
-use Rattle.scanning.specs.States.{lettersForm, markForm, digitsForm, followForm, feedForm, valueForm, fieldNameForm, version, statusDigitsForm, versionForm, formAt}
+use Rattle.scanning.specs.declared.state.State.the-variants.{Line, Digits, Mark, Sig, Hash, Letters, Pads, Pad, Return, Version, Status, Lines, Field, FieldName, Value, LineFeed, Name, NameRest, End}
+use Rattle.scanning.specs.States.{lettersForm, sigForm, hashForm, markForm, digitsForm, followForm, feedForm, valueForm, fieldNameForm, version, statusDigitsForm, versionForm, formAt}
 
 -- ---- an arm of the match over the states: o is what the byte b leaves in the state s
 
@@ -34,7 +33,7 @@ module _ (s : State) (b : ℕ) (o : Option Form) where
   -- arms that ask for the byte's class: u is the answer
   module _ (u : Bool) where
     pub line-arm : s ≡ Line → u ≡ isHex b → o ≡ when u (digitsForm 7) → o ≡ stepForm (formAt s) b
-    unfolding stepForm chunkForm sizeForm signatureForm digitsForm markForm lettersForm dataEndForm
+    unfolding stepForm chunkForm sizeForm extensionForm signatureForm digitsForm markForm sigForm hashForm lettersForm dataEndForm
     line-arm e q f = f ∙ rw (e, q)
 
     pub lines-arm : s ≡ Lines → u ≡ isTchar b → o ≡ orElse (when (eqb b 13) (feedForm false)) (when u (fieldNameForm true)) → o ≡ stepForm (formAt s) b
@@ -128,13 +127,29 @@ module _ (t : List ℕ) (f : Form) (k b : ℕ) (o : Option Form) where
   unfolding stepForm
   text-more x h q e = e ∙ rw (drop-cons t k 0 h, add-one k, q)
 
-pub mark-over : (k b : ℕ) (o : Option Form) → 8 ≤ k → o ≡ stepForm (lettersForm 85) b → o ≡ stepForm (markForm k) b
-unfolding markForm
-mark-over k b o h e = text-over ouisig (lettersForm 85) k b o h e
+pub sig-over : (k b : ℕ) (o : Option Form) → 4 ≤ k → o ≡ stepForm (lettersForm 85) b → o ≡ stepForm (sigForm k) b
+unfolding sigForm
+sig-over k b o h e = text-over (octets "sig=") (lettersForm 85) k b o h e
 
-pub mark-more : (k b x : ℕ) (o : Option Form) → k < 8 → x ≡ getD ouisig k 0 → o ≡ when (eqb b x) (markForm (k + 1)) → o ≡ stepForm (markForm k) b
+pub sig-more : (k b x : ℕ) (o : Option Form) → k < 4 → x ≡ getD (octets "sig=") k 0 → o ≡ when (eqb b x) (sigForm (k + 1)) → o ≡ stepForm (sigForm k) b
+unfolding sigForm
+sig-more k b x o h q e = text-more (octets "sig=") (lettersForm 85) k b o x h q e
+
+pub hash-over : (k b : ℕ) (o : Option Form) → 5 ≤ k → o ≡ stepForm (lettersForm 85) b → o ≡ stepForm (hashForm k) b
+unfolding hashForm
+hash-over k b o h e = text-over (octets "hash=") (lettersForm 85) k b o h e
+
+pub hash-more : (k b x : ℕ) (o : Option Form) → k < 5 → x ≡ getD (octets "hash=") k 0 → o ≡ when (eqb b x) (hashForm (k + 1)) → o ≡ stepForm (hashForm k) b
+unfolding hashForm
+hash-more k b x o h q e = text-more (octets "hash=") (lettersForm 85) k b o x h q e
+
+pub mark-over : (k b : ℕ) (o : Option Form) → 4 ≤ k → o ≡ orElse (when (eqb b 115) (sigForm 1)) (when (eqb b 104) (hashForm 1)) → o ≡ stepForm (markForm k) b
+unfolding stepForm markForm sigForm hashForm
+mark-over k b o h e = text-over (octets ";oui") (either (sigForm 0) (hashForm 0)) k b o h e
+
+pub mark-more : (k b x : ℕ) (o : Option Form) → k < 4 → x ≡ getD (octets ";oui") k 0 → o ≡ when (eqb b x) (markForm (k + 1)) → o ≡ stepForm (markForm k) b
 unfolding markForm
-mark-more k b x o h q e = text-more ouisig (lettersForm 85) k b o x h q e
+mark-more k b x o h q e = text-more (octets ";oui") (either (sigForm 0) (hashForm 0)) k b o x h q e
 
 pub version-over : (follows : Bool) (k b : ℕ) (o : Option Form) → 9 ≤ k → o ≡ stepForm (statusDigitsForm follows 3) b → o ≡ stepForm (versionForm follows k) b
 unfolding versionForm
@@ -172,6 +187,8 @@ abbrev endsAt : State → Bool
 endsAt Line = false
 endsAt (Digits n) = false
 endsAt (Mark k) = false
+endsAt (Sig k) = false
+endsAt (Hash k) = false
 endsAt (Letters n) = false
 endsAt Pads = false
 endsAt Pad = false
@@ -188,10 +205,12 @@ endsAt NameRest = true
 endsAt End = true
 
 pub ends-is : (s : State) → endsAt s ≡ mayEndForm (formAt s)
-unfolding mayEndForm chunkForm sizeForm digitsForm markForm dataEndForm versionForm trailerForm fieldLineForm fieldForm fieldNameForm valueForm feedForm nameForm
+unfolding mayEndForm chunkForm sizeForm digitsForm markForm sigForm hashForm dataEndForm versionForm trailerForm fieldLineForm fieldForm fieldNameForm valueForm feedForm nameForm
 ends-is Line = refl
 ends-is (Digits n) = refl
-ends-is (Mark k) = text-end (drop k ouisig) (lettersForm 85) (letters-end 85)
+ends-is (Mark k) = text-end (drop k (octets ";oui")) (either (sigForm 0) (hashForm 0)) refl
+ends-is (Sig k) = text-end (drop k (octets "sig=")) (lettersForm 85) (letters-end 85)
+ends-is (Hash k) = text-end (drop k (octets "hash=")) (lettersForm 85) (letters-end 85)
 ends-is (Letters n) = letters-end n
 ends-is Pads = refl
 ends-is Pad = refl

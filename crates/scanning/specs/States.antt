@@ -8,12 +8,11 @@ use lib.ListN.{drop}
 use Rattle.octets.specs.Octets.{octets}
 use Rattle.places.specs.declared.Checked.{Checked}
 use Rattle.scanner.specs.Form.{Form, done, one, only, upTo, many, either, text, times, acceptsForm, reachForm}
-use Rattle.stream.specs.Blocks.{ouisig}
 use Rattle.stream.specs.Bytes.{isHex, isTchar, isText}
 use Rattle.stream.specs.Forms.{letter, lastLetter, digit, chunkForm, dataEndForm, nameForm, fieldLineForm, trailerForm}
 use Rattle.stream.specs.Lines.{crlf}
 use Rattle.scanning.specs.declared.state.State.{State}
-use Rattle.scanning.specs.declared.state.State.the-variants.{Line, Digits, Mark, Letters, Pads, Pad, Return, Version, Status, Lines, Field, FieldName, Value, LineFeed, Name, NameRest, End}
+use Rattle.scanning.specs.declared.state.State.the-variants.{Line, Digits, Mark, Sig, Hash, Letters, Pads, Pad, Return, Version, Status, Lines, Field, FieldName, Value, LineFeed, Name, NameRest, End}
 use Rattle.scanning.specs.declared.state.Next.{Next}
 use Rattle.scanning.specs.declared.state.Next.the-variants.{To, Nowhere}
 
@@ -22,8 +21,14 @@ use Rattle.scanning.specs.declared.state.Next.the-variants.{To, Nowhere}
 unfoldable pub lettersForm : ℕ → Form
 lettersForm n = times n letter (one lastLetter (text (octets "==") dataEndForm))
 
+unfoldable pub sigForm : ℕ → Form
+sigForm k = text (drop k (octets "sig=")) (lettersForm 85)
+
+unfoldable pub hashForm : ℕ → Form
+hashForm k = text (drop k (octets "hash=")) (lettersForm 85)
+
 unfoldable pub markForm : ℕ → Form
-markForm k = text (drop k ouisig) (lettersForm 85)
+markForm k = text (drop k (octets ";oui")) (either (sigForm 0) (hashForm 0))
 
 unfoldable pub digitsForm : ℕ → Form
 digitsForm n = upTo n isHex (either (markForm 0) dataEndForm)
@@ -59,6 +64,8 @@ abbrev pub formAt : State → Form
 formAt Line = chunkForm
 formAt (Digits n) = digitsForm n
 formAt (Mark k) = markForm k
+formAt (Sig k) = sigForm k
+formAt (Hash k) = hashForm k
 formAt (Letters n) = lettersForm n
 formAt Pads = text (octets "==") dataEndForm
 formAt Pad = text (octets "=") dataEndForm

@@ -18,6 +18,8 @@ fn step(s: State, b: u8) -> Next
         State::Line => next_if(classes::is_in(Class::Hex, b), State::Digits(7)),
         State::Digits(n) => chunk_steps::digits(n, b),
         State::Mark(k) => chunk_steps::mark(k, b),
+        State::Sig(k) => chunk_steps::sig(k, b),
+        State::Hash(k) => chunk_steps::hash(k, b),
         State::Letters(n) => chunk_steps::letters(n, b),
         State::Pads => next_if(b == b'=', State::Pad),
         State::Pad => next_if(b == b'=', State::Return),

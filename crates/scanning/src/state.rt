@@ -8,8 +8,11 @@ pub(crate) enum State {
     // a chunk line, from its first byte; no more digits of its size than so many, and then the rest
     Line,
     Digits(u8),
-    // `;ouisig=` without its first so many bytes; so many letters of the signature, and the one before `==`; `==`; `=`
+    // `;oui` without its first so many bytes, and then `sig=` or `hash=`; each of these without its first so many; so many letters of the
+    // signature or the hash, and the one before `==`; `==`; `=`
     Mark(u8),
+    Sig(u8),
+    Hash(u8),
     Letters(u8),
     Pads,
     Pad,

@@ -4,6 +4,7 @@ use mathlib.Core.List.{List, _++_}
 use Prim.Native.Nat.{ℕ, min}
 use lib.ListN.{length, drop, replicate}
 use Rattle.octets.specs.Choice.{pick}
+use Rattle.ranges.specs.declared.extent.Extent.the-variants.{Whole}
 use Rattle.refusals.specs.declared.Refusal.{Refusal}
 use Rattle.sha256.specs.Midstate.{start}
 use Rattle.sha256.specs.declared.Midstate.{Midstate}
@@ -35,7 +36,7 @@ freshReader =
     record {
       phase = P.Head 0;
       fixed =
-          record { accepted = 0; status = 0; «block_size» = 0; key = 0; id = replicate idLimit 0; «id_length» = 0 };
+          record { accepted = 0; status = 0; «block_size» = 0; extent = Whole; key = 0; id = replicate idLimit 0; «id_length» = 0 };
       chain = record { number = record { 0 = 0 }; hash = replicate 64 0; body = start };
       line = replicate lineLimit 0;
       released = 0;
@@ -60,6 +61,9 @@ inPhase r p = renewed r p (r .line) (r .chain)
 
 abbrev pub withLine : Reader → Phase → List ℕ → Reader
 withLine r p line = renewed r p line (r .chain)
+
+abbrev pub withChain : Reader → Phase → Chain → Reader
+withChain r p chain = renewed r p (r .line) chain
 
 abbrev pub withHash : Reader → Phase → List ℕ → Midstate → Reader
 withHash r p hash body = renewed r p (r .line) (record { number = r .chain .number; hash = hash; body = body })

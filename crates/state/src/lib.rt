@@ -12,6 +12,7 @@ pub use reader::Fixed;
 pub use reader::Reader;
 pub use reader::fresh;
 pub use reader::in_phase;
+pub use reader::with_chain;
 pub use reader::with_hash;
 pub use reader::with_line;
 pub use stepped::Stepped;

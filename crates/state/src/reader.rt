@@ -2,9 +2,10 @@
 // buffers.
 use crate::phase::Phase;
 use blocks::BlockNumber;
+use ranges::Extent;
 use sha256::Midstate;
 ghost use mathlib.Core.Path.{_≡_};
-ghost use Rattle.state.specs.Configuration.{freshReader, renewed as renewedReader, inPhase, withLine, withHash};
+ghost use Rattle.state.specs.Configuration.{freshReader, renewed as renewedReader, inPhase, withLine, withChain, withHash};
 
 // What the head fixes for the rest of the stream.
 pub struct Fixed {
@@ -13,6 +14,8 @@ pub struct Fixed {
     pub status: u64,
     // The block size N.
     pub block_size: usize,
+    // Which bytes of the body the answer carries.
+    pub extent: Extent,
     // The number of the key's record.
     pub key: usize,
     // The injection's id, and how many of its bytes count.
@@ -45,6 +48,7 @@ pub fn fresh() -> Reader
         accepted: 0,
         status: 0,
         block_size: 0,
+        extent: Extent::Whole,
         key: 0,
         id: [0; 64],
         id_length: 0,
@@ -90,6 +94,14 @@ pub fn with_line(r: Reader, phase: Phase, line: [u8; 128]) -> Reader
     ensures { λ s. ⌜ s ≡ withLine r phase line ⌝ }
 {
     let chain = r.chain;
+    renewed(r, phase, line, chain)
+}
+
+// The same with another chain.
+pub fn with_chain(r: Reader, phase: Phase, chain: Chain) -> Reader
+    ensures { λ s. ⌜ s ≡ withChain r phase chain ⌝ }
+{
+    let line = r.line;
     renewed(r, phase, line, chain)
 }
 

@@ -11,16 +11,17 @@ use Rattle.octets.specs.Octets.{octets}
 use Rattle.base64.specs.Base64.{isBase64, letterValue, holdsThree, holdsTwo, holdsOne}
 use Rattle.sections.specs.Reading.{cut}
 use Rattle.sections.specs.Leaving.{afterSections, leaving}
-use Rattle.stream.specs.Blocks.{isWholeLine, carriesSignature, isChunkLine, chunkSize, lineRules, lineFault}
+use Rattle.stream.specs.Blocks.{isWholeLine, carriesSignature, isChunkLine, chunkSize, lineRules, lineFault, carriesHash, isExtension, isHashDue}
 use Rattle.stream.specs.Buffers.{Buffers, withSection, withMessage, pending, withLastWord, effects}
 use Rattle.stream.specs.Bytes.{all, same}
-use Rattle.stream.specs.Ends.{allFields, isClaimed}
+use Rattle.stream.specs.Ends.{allFields, isClaimed, isChecked}
 use Rattle.stream.specs.Fields.{among, namesOf, hasField}
-use Rattle.stream.specs.Head.{headOf, headWith, endsHead, isWholeHead}
-use Rattle.stream.specs.Lines.{endsWith, lines, beforeEmpty, textLines, fieldScan, isFieldLine, areFieldLines, fieldsOf}
+use Rattle.stream.specs.Head.{headOf, headWith, endsHead, isWholeHead, isPartial, rangeOf, statusDigits}
+use Rattle.stream.specs.Lines.{endsWith, lines, beforeEmpty, textLines, fieldScan, isFieldLine, areFieldLines, fieldsOf, statusOf, statusScan}
 use Rattle.stream.specs.Numbers.{numberFrom, isHexNumber}
+use Rattle.stream.specs.Range.{firstByte, isWithin}
 use Rattle.stream.specs.Rule.{firstBroken}
-use Rattle.stream.specs.Stream.{head, firstLine, isWhole, judgeFirstLine, judgeDataEnd, acceptBlock, judgeNextLine, judgeEnd, judgeTrailer, judge, rules}
+use Rattle.stream.specs.Stream.{head, firstLine, isWhole, judgeFirstLine, judgeDataEnd, acceptBlock, judgeNextLine, judgeEnd, judgeTrailer, judge, rules, releasedWith, startFrom, startOf}
 use Rattle.stream.specs.Template.{run, past, startsWith, scan}
 use Rattle.stream.specs.Trailer.{endsTrailer, isWholeTrailer, isTrailer}
 use Rattle.stream.proofs.Cases.{Case}
@@ -62,5 +63,5 @@ table =
     ∷ []
 
 pub cleared-cases : map (λ (c : Case). c .got) table ≡ map (λ (c : Case). c .due) table
-unfolding table blockAfter joinedAfter endsHead isWholeHead isBase64 letterValue holdsThree holdsTwo holdsOne cut afterSections leaving withSection withMessage pending withLastWord isWholeLine carriesSignature isChunkLine chunkSize lineRules lineFault all same endsWith lines beforeEmpty textLines fieldScan isFieldLine areFieldLines fieldsOf headOf headWith among namesOf hasField numberFrom isHexNumber firstBroken isWhole judgeFirstLine judgeDataEnd acceptBlock judgeNextLine allFields isClaimed judgeEnd judgeTrailer judge rules run past startsWith scan endsTrailer isWholeTrailer isTrailer
+unfolding table blockAfter joinedAfter endsHead isWholeHead isBase64 letterValue holdsThree holdsTwo holdsOne cut afterSections leaving withSection withMessage pending withLastWord isWholeLine carriesSignature isChunkLine chunkSize lineRules lineFault all same endsWith lines beforeEmpty textLines fieldScan isFieldLine areFieldLines fieldsOf headOf headWith among namesOf hasField numberFrom isHexNumber firstBroken isWhole judgeFirstLine judgeDataEnd acceptBlock judgeNextLine allFields isClaimed judgeEnd judgeTrailer judge rules run past startsWith scan endsTrailer isWholeTrailer isTrailer carriesHash isExtension isHashDue firstByte isWithin rangeOf isPartial startFrom startOf releasedWith isChecked statusDigits statusOf statusScan
 cleared-cases = refl

@@ -12,7 +12,7 @@ use Rattle.base64.specs.Base64.{isBase64}
 use Rattle.base64.proofs.Laws.{text-length}
 use Rattle.stream.specs.Bytes.{all, isDigit}
 use Rattle.stream.specs.Ends.{Ends, isDigest, digestLabel, endsIn, endRules, endFault, endString}
-use Rattle.stream.specs.Head.{Head, headOf, textRules}
+use Rattle.stream.specs.Head.{Head, headOf, statusDigits, textRules}
 use Rattle.stream.specs.Limits.{timeDigits, dataSizeDigits}
 use Rattle.stream.specs.Lines.{Field}
 use Rattle.stream.specs.Numbers.{isDecimal}
@@ -21,7 +21,7 @@ use Rattle.stream.specs.Signatures.{isSig0, createdText}
 use Rattle.stream.specs.Template.{startsWith, isLike}
 use Rattle.stream.proofs.LineSizes.{fieldSize}
 use Rattle.stream.proofs.RulesHold.{AllHold, rules-hold, numbersOf}
-use Rattle.stream.proofs.SigningSize.{lines-fit, text-signs}
+use Rattle.stream.proofs.SigningSize.{lines-fit, text-signs, status-size}
 use Rattle.stream.proofs.Truth.{left-holds, right-holds, within}
 
 -- an end without fault keeps every rule of the end
@@ -67,5 +67,7 @@ short-ends h fs total hash e =
 
 -- THE LAW
 pub end-fits : (l : List ℕ) (e : Ends) → firstBroken (textRules l (headOf l)) ≡ 0 → ShortEnds e → length (endString (headOf l) e) ≤ length l
-unfolding endString
-end-fits l e h k = lines-fit l (createdText (e .sig1)) _ (text-signs l h) (omega (arith, k .digest, k .dataSize, k .created))
+unfolding endString statusDigits
+end-fits l e h k =
+    let signs = text-signs l h in
+    lines-fit l (statusDigits (headOf l)) (createdText (e .sig1)) _ signs (status-size _ (signs .status)) (omega (arith, k .digest, k .dataSize, k .created))

@@ -5,6 +5,7 @@ pub mod PlaceCases
 pub mod LimitCases
 pub mod RepeatCases
 pub mod AskedCases
+pub mod PartCases
 pub mod Truth
 pub mod RulesHold
 pub mod ScanSizes
@@ -17,6 +18,7 @@ pub mod EndFields
 pub mod SignedLaws
 pub mod MessageLaws
 pub mod Sound
+pub mod Aligned
 pub mod SoundJudge
 pub mod SoundReading
 pub mod BufferCases

@@ -10,17 +10,18 @@ use Rattle.octets.specs.Octets.{octets}
 use Rattle.base64.specs.Base64.{letterValue, isBase64, holdsThree, holdsTwo, holdsOne}
 use Rattle.scanner.specs.Form.{stepForm, reachForm}
 use Rattle.scanner.specs.Scanner.{reach, reachFrom}
-use Rattle.stream.specs.Blocks.{carriesSignature, isChunkLine, chunkSize, lineRules, lineFault}
+use Rattle.stream.specs.Blocks.{carriesSignature, isChunkLine, chunkSize, lineRules, lineFault, carriesHash, isExtension, isHashDue}
 use Rattle.stream.specs.Bytes.{all, same, lowered, sameName}
 use Rattle.stream.specs.Fields.{among, isProtected, isProtectedDoubled, namesOf, hasField, valueOf}
-use Rattle.stream.specs.Forms.{signatureForm, sizeForm, chunkForm, dataEndForm, nameForm, fieldForm, fieldLineForm, trailerForm, statusForm, statusLineForm, headForm}
-use Rattle.stream.specs.Head.{endsHead, headWith as readHead, headOf, statusDigits, textRules, callerRules, headFault}
+use Rattle.stream.specs.Forms.{signatureForm, sizeForm, chunkForm, dataEndForm, nameForm, fieldForm, fieldLineForm, trailerForm, statusForm, statusLineForm, headForm, extensionForm}
+use Rattle.stream.specs.Head.{endsHead, headWith as readHead, headOf, statusDigits, textRules, callerRules, headFault, isPartial, isRanged, rangeOf, signedStatus}
 use Rattle.stream.specs.Lines.{crlf, endsWith, lines, beforeEmpty, textLines, trimmed, fieldScan, isFieldLine, fieldOf, areFieldLines, fieldsOf, statusScan, isStatusLine, statusOf}
 use Rattle.stream.specs.Numbers.{numberFrom, isDecimal, isHexNumber}
 use Rattle.stream.specs.Places.{headPlace, linePlace, dataEndPlace, trailerPlace}
+use Rattle.stream.specs.Range.{firstByte, isWithin}
 use Rattle.stream.specs.Rule.{firstBroken}
 use Rattle.stream.specs.Signatures.{injectionScan, bsigsScan, sig0Scan}
-use Rattle.stream.specs.Stream.{nothing, Says, judgeHead, judgeFirstLine, judgeDataEnd, judgeNextLine, judgeTrailer}
+use Rattle.stream.specs.Stream.{nothing, Says, judgeHead, judgeFirstLine, judgeDataEnd, judgeNextLine, judgeTrailer, startFrom, startOf}
 use Rattle.stream.specs.Template.{run, past, startsWith, scan}
 use Rattle.stream.specs.Trailer.{endsTrailer, isTrailer}
 use Rattle.stream.proofs.Cases.{said, Case, case, holdsAll}
@@ -117,7 +118,7 @@ rows =
     ∷ []
 
 pub places : holdsAll rows ≡ true
-unfolding rows holdsAll said letterValue isBase64 holdsThree holdsTwo holdsOne stepForm reachForm reach reachFrom all same lowered sameName among isProtected isProtectedDoubled namesOf hasField valueOf signatureForm sizeForm chunkForm dataEndForm nameForm fieldForm fieldLineForm trailerForm statusForm statusLineForm headForm endsHead endsWith headPlace linePlace dataEndPlace trailerPlace endsTrailer isTrailer lines beforeEmpty textLines trimmed fieldScan isFieldLine fieldOf areFieldLines fieldsOf statusScan isStatusLine statusOf scan run past startsWith numberFrom isDecimal isHexNumber isChunkLine carriesSignature chunkSize lineRules lineFault firstBroken readHead headOf statusDigits injectionScan bsigsScan sig0Scan textRules callerRules headFault judgeHead judgeFirstLine judgeDataEnd judgeNextLine judgeTrailer
+unfolding rows holdsAll said letterValue isBase64 holdsThree holdsTwo holdsOne stepForm reachForm reach reachFrom all same lowered sameName among isProtected isProtectedDoubled namesOf hasField valueOf signatureForm sizeForm chunkForm dataEndForm nameForm fieldForm fieldLineForm trailerForm statusForm statusLineForm headForm endsHead endsWith headPlace linePlace dataEndPlace trailerPlace endsTrailer isTrailer lines beforeEmpty textLines trimmed fieldScan isFieldLine fieldOf areFieldLines fieldsOf statusScan isStatusLine statusOf scan run past startsWith numberFrom isDecimal isHexNumber isChunkLine carriesSignature chunkSize lineRules lineFault firstBroken readHead headOf statusDigits injectionScan bsigsScan sig0Scan textRules callerRules headFault judgeHead judgeFirstLine judgeDataEnd judgeNextLine judgeTrailer extensionForm isExtension carriesHash isHashDue firstByte isWithin rangeOf isPartial signedStatus isRanged startFrom startOf
 places = refl
 
 -- "x to the limit", for any text without its end and whatever the limit is: the length taken

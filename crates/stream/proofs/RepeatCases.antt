@@ -13,20 +13,21 @@ use Rattle.hash.specs.Sha512.{roundWords, sha512}
 use Rattle.scanner.specs.Form.{stepForm, reachForm}
 use Rattle.scanner.specs.Scanner.{reach, reachFrom}
 use Rattle.sections.specs.Reading.{cut, sections, readingAt}
-use Rattle.stream.specs.Blocks.{isWholeLine, carriesSignature, isChunkLine, chunkSize, lineSignature, lineRules, lineFault, chained, blockMessage}
+use Rattle.stream.specs.Blocks.{isWholeLine, carriesSignature, isChunkLine, chunkSize, lineSignature, lineRules, lineFault, chained, blockMessage, carriesHash, isExtension, isHashDue, lineHash}
 use Rattle.stream.specs.Bytes.{all, same, lowered, sameName}
-use Rattle.stream.specs.Ends.{allFields, isClaimed}
+use Rattle.stream.specs.Ends.{allFields, isClaimed, isChecked}
 use Rattle.stream.specs.Fields.{among, isDoubled, isProtected, isProtectedDoubled, namesOf, hasField, valueOf, valuesOf, countOf}
 use Rattle.stream.specs.Forms.{nameForm, fieldForm, fieldLineForm, trailerForm, statusForm, statusLineForm, headForm}
-use Rattle.stream.specs.Head.{endsHead, isWholeHead, headWith, headOf, statusDigits, injectionId, injectionTime, blockSize, blockKey, headKey, listedNames, headSignature, signedOf, signingString, trustedBy, textRules, callerRules, headFault}
+use Rattle.stream.specs.Head.{endsHead, isWholeHead, headWith, headOf, statusDigits, injectionId, injectionTime, blockSize, blockKey, headKey, listedNames, headSignature, signedOf, signingString, trustedBy, textRules, callerRules, headFault, isPartial, isRanged, rangeOf, signedStatus}
 use Rattle.stream.specs.Lines.{crlf, endsWith, lines, beforeEmpty, textLines, trimmed, fieldScan, isFieldLine, fieldOf, areFieldLines, fieldsOf, statusScan, isStatusLine, statusOf}
 use Rattle.stream.specs.Numbers.{numberFrom, isDecimal, isHexNumber, decimalWithin, decimal}
 use Rattle.stream.specs.Places.{headPlace}
+use Rattle.stream.specs.Range.{firstByte, isWithin}
 use Rattle.stream.specs.Ring.{fits, firstFrom, found}
 use Rattle.stream.specs.Rule.{firstBroken}
 use Rattle.stream.specs.Signatures.{injectionScan, isInjection, bsigsScan, isBsigs, sig0Scan, isSig0, splitNames, areFields, isNameList}
 use Rattle.stream.specs.Signing.{separated, signedFields, joinedFields, signingLine, signingText}
-use Rattle.stream.specs.Stream.{isWhole, showOf, headQuestion, acceptHead, judgeHead, judgeFirstLine, judgeDataEnd, blockQuestion, acceptBlock, judgeNextLine, judgeEnd, judgeTrailer, judge, rules}
+use Rattle.stream.specs.Stream.{isWhole, showOf, headQuestion, acceptHead, judgeHead, judgeFirstLine, judgeDataEnd, blockQuestion, acceptBlock, judgeNextLine, judgeEnd, judgeTrailer, judge, rules, releasedWith, startFrom, startOf}
 use Rattle.stream.specs.Template.{run, past, startsWith, scan}
 use Rattle.stream.specs.Trailer.{endsTrailer, isWholeTrailer, isTrailer}
 use Rattle.stream.proofs.Cases.{said, told, events, eventsFrom, Case, case, holdsAll}
@@ -141,5 +142,5 @@ table =
     ∷ []
 
 pub repeated : holdsAll table ≡ true
-unfolding holdsAll table withFields signing repeatedHead areProtected areDoubled said judged joined handed told events eventsFrom isBase64 letterValue holdsThree holdsTwo holdsOne joinedLetters base64Bytes bigEndian padding padded number parsed schedule round rounds sums compressed hashed unparsed digest roundWords sha512 stepForm reachForm reach reachFrom cut sections readingAt isWholeLine carriesSignature isChunkLine chunkSize lineSignature lineRules lineFault chained blockMessage all same lowered sameName among isDoubled isProtected isProtectedDoubled namesOf hasField valueOf valuesOf nameForm fieldForm fieldLineForm trailerForm statusForm statusLineForm headForm endsHead isWholeHead headWith headOf statusDigits injectionId injectionTime blockSize blockKey headKey listedNames headSignature signedOf signingString trustedBy textRules callerRules headFault endsWith lines beforeEmpty textLines trimmed fieldScan isFieldLine fieldOf areFieldLines fieldsOf statusScan isStatusLine statusOf numberFrom isDecimal isHexNumber decimalWithin decimal headPlace fits firstFrom found firstBroken injectionScan isInjection bsigsScan isBsigs sig0Scan isSig0 splitNames areFields isNameList separated signedFields joinedFields signingLine signingText isWhole showOf headQuestion acceptHead judgeHead judgeFirstLine judgeDataEnd blockQuestion acceptBlock judgeNextLine allFields isClaimed judgeEnd judgeTrailer judge rules run past startsWith scan endsTrailer isWholeTrailer isTrailer
+unfolding holdsAll table withFields signing repeatedHead areProtected areDoubled said judged joined handed told events eventsFrom isBase64 letterValue holdsThree holdsTwo holdsOne joinedLetters base64Bytes bigEndian padding padded number parsed schedule round rounds sums compressed hashed unparsed digest roundWords sha512 stepForm reachForm reach reachFrom cut sections readingAt isWholeLine carriesSignature isChunkLine chunkSize lineSignature lineRules lineFault chained blockMessage all same lowered sameName among isDoubled isProtected isProtectedDoubled namesOf hasField valueOf valuesOf nameForm fieldForm fieldLineForm trailerForm statusForm statusLineForm headForm endsHead isWholeHead headWith headOf statusDigits injectionId injectionTime blockSize blockKey headKey listedNames headSignature signedOf signingString trustedBy textRules callerRules headFault endsWith lines beforeEmpty textLines trimmed fieldScan isFieldLine fieldOf areFieldLines fieldsOf statusScan isStatusLine statusOf numberFrom isDecimal isHexNumber decimalWithin decimal headPlace fits firstFrom found firstBroken injectionScan isInjection bsigsScan isBsigs sig0Scan isSig0 splitNames areFields isNameList separated signedFields joinedFields signingLine signingText isWhole showOf headQuestion acceptHead judgeHead judgeFirstLine judgeDataEnd blockQuestion acceptBlock judgeNextLine allFields isClaimed judgeEnd judgeTrailer judge rules run past startsWith scan endsTrailer isWholeTrailer isTrailer carriesHash isExtension lineHash isHashDue firstByte isWithin rangeOf isPartial signedStatus isRanged startFrom startOf releasedWith isChecked
 repeated = refl

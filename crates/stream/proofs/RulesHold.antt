@@ -90,6 +90,6 @@ numbersOf (r ∷ rs) = r .number ∷ numbersOf rs
 pub head-rules-order
     : (terms : Terms) (l : List ℕ)
     → numbersOf (textRules l (headOf l) ++ callerRules terms (headOf l))
-    ≡ 3 ∷ 3 ∷ 3 ∷ 3 ∷ 3 ∷ 4 ∷ 5 ∷ 4 ∷ 4 ∷ 4 ∷ 4 ∷ 4 ∷ 4 ∷ 4 ∷ 4 ∷ 16 ∷ 12 ∷ 12 ∷ []
+    ≡ 3 ∷ 3 ∷ 3 ∷ 3 ∷ 3 ∷ 4 ∷ 5 ∷ 4 ∷ 4 ∷ 4 ∷ 4 ∷ 4 ∷ 4 ∷ 4 ∷ 4 ∷ 4 ∷ 16 ∷ 12 ∷ 12 ∷ []
 unfolding textRules callerRules
 head-rules-order terms l = refl

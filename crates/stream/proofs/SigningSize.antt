@@ -1,8 +1,8 @@
 -- The signing string of a good head is no longer than the head (paper 01, "The head"). Assumes nothing.
 use borrow.Author.Tests.{eqb-true, not-true}
-use mathlib.Core.Bool.{true, false, not}
+use mathlib.Core.Bool.{Bool, true, false, _||_, not}
 use mathlib.Core.List.{List, [], _∷_, _++_, append-nil}
-use mathlib.Core.Path.{_≡_, refl}
+use mathlib.Core.Path.{_≡_, refl, _∙_}
 use Prim.Native.Nat.{ℕ, zero, suc, _+_, _≤_}
 use native.Mathlib.Nat.{le-trans}
 use native.Mathlib.Omega.{arith}
@@ -10,9 +10,9 @@ use lib.Dec.{eqb}
 use lib.ListN.{length, drop, length-append}
 use Rattle.octets.specs.Octets.{octets}
 use Rattle.base64.proofs.Laws.{text-length}
-use Rattle.stream.specs.Bytes.{lowered}
+use Rattle.stream.specs.Bytes.{same, lowered}
 use Rattle.stream.specs.Fields.{among, isDoubled, valueOf}
-use Rattle.stream.specs.Head.{Head, headOf, headWith, statusDigits, listedNames, signingString, textRules, callerRules, headFault}
+use Rattle.stream.specs.Head.{Head, headOf, headWith, signedStatus, listedNames, signingString, isStatus, textRules, callerRules, headFault}
 use Rattle.stream.specs.Limits.{headLimit}
 use Rattle.stream.specs.Lines.{Field, areFieldLines, statusScan, isStatusLine, statusOf}
 use Rattle.stream.specs.Rule.{firstBroken}
@@ -24,7 +24,7 @@ use Rattle.stream.proofs.LineSizes.{fieldSize, field-lines-size, fields
 use Rattle.stream.proofs.NameSizes.{names-size, value-size, signed-size}
 use Rattle.stream.proofs.RulesHold.{rules-hold, front-kept}
 use Rattle.stream.proofs.ScanSizes.{total, total-append, scan-fits, three-kept}
-use Rattle.stream.proofs.Truth.{left-holds, right-holds, left-fails, right-fails, lowered-length}
+use Rattle.stream.proofs.Truth.{left-holds, right-holds, left-fails, right-fails, same-equal, lowered-length}
 
 -- ---- the signing string, by its lines
 
@@ -45,6 +45,20 @@ unfolding isStatusLine statusOf
 status-size line h =
     eqb-true (length (kept 0 (statusScan line))) 3
     (right-holds (isLike (statusScan line)) (eqb (length (kept 0 (statusScan line))) 3) h)
+
+-- a status is one of four texts of three digits
+pub listed-status-size : (d : List ℕ) → isStatus d ≡ true → length d ≡ 3
+listed-status-size d h = by (same d (octets "200")) (same d (octets "301")) (same d (octets "302")) (same d (octets "307")) refl refl refl refl h
+  where
+    like : (s : List ℕ) → same d s ≡ true → length s ≡ 3 → length d ≡ 3
+    like s e n = rw (same-equal d s e) n
+
+    by : (a b c e : Bool) → same d (octets "200") ≡ a → same d (octets "301") ≡ b → same d (octets "302") ≡ c → same d (octets "307") ≡ e
+        → a || (b || (c || e)) ≡ true → length d ≡ 3
+    by true b c e p q r s k = like (octets "200") p refl
+    by false true c e p q r s k = like (octets "301") q refl
+    by false false true e p q r s k = like (octets "302") r refl
+    by false false false e p q r s k = like (octets "307") (s ∙ k) refl
 
 -- the fixed texts of `X-Ouinet-Sig0` have 68 bytes; the key has 44 characters, the signature 88, and `created` stands beside them
 sig0-size : (l : List ℕ) → isSig0 (sig0Scan l) ≡ true → 200 + length (kept 1 (sig0Scan l)) ≤ length l
@@ -82,35 +96,37 @@ listed fs ns h =
 
 -- ---- the law
 
--- four of the head's rules
+-- five of the head's rules
 pub record Signs (l : List ℕ) : Type 0 where
   pub status : isStatusLine (headOf l .statusLine) ≡ true
+  pub signed : isStatus (signedStatus (headOf l)) ≡ true
   pub lines : areFieldLines (headOf l .fieldLines) ≡ true
   pub sig0 : isSig0 (headOf l .sig0) ≡ true
   pub names : isNameList (headOf l .fields) (listedNames (headOf l)) ≡ true
 
--- the lines that a head's signature lists, with another `created`, and some lines more
-abbrev pub signedLines : Head → List ℕ → List Field → List Field
-signedLines h created more =
-    record { name = responseStatusName; value = statusDigits h }
+-- the lines that a head's signature lists, with another status or `created`, and some lines more
+abbrev pub signedLines : Head → List ℕ → List ℕ → List Field → List Field
+signedLines h status created more =
+    record { name = responseStatusName; value = status }
     ∷ record { name = createdName; value = created }
     ∷ (joinedFields (h .fields) (listedFields (listedNames h)) ++ more)
 
 -- The lines after the first have two bytes more than the head at most. Of these `X-Ouinet-Sig0` has 200 and the digits of its `created`, where the
 -- first two lines of the signing string have 35 and the digits of theirs.
-pub lines-fit : (l created : List ℕ) (more : List Field) → Signs l → length created + total fieldSize more ≤ 160 + length (kept 1 (headOf l .sig0))
-    → length (signingText (signedLines (headOf l) created more)) ≤ length l
-unfolding headOf headWith statusDigits
-lines-fit l created more k few =
+pub lines-fit : (l status created : List ℕ) (more : List Field) → Signs l → length status ≡ 3
+    → length created + total fieldSize more ≤ 160 + length (kept 1 (headOf l .sig0))
+    → length (signingText (signedLines (headOf l) status created more)) ≤ length l
+unfolding headOf headWith
+lines-fit l status created more k three few =
     let fs : List Field = headOf l .fields in
     let ns : List (List ℕ) = listedFields (listedNames (headOf l)) in
     let x = listed fs (listedNames (headOf l)) (k .names) in
     omega (
       arith,
       few,
-      joined-size (signedLines (headOf l) created more),
+      three,
+      joined-size (signedLines (headOf l) status created more),
       total-append fieldSize (joinedFields fs ns) more,
-      status-size (headOf l .statusLine) (k .status),
       signed-size fs ns (x .present),
       sig0-size (valueOf sig0Name fs) (k .sig0),
       value-size fs sig0Name,
@@ -123,14 +139,14 @@ pub signing-fits′ : (l : List ℕ) → Signs l → length (signingString (head
 unfolding signingString
 signing-fits′ l k =
     let e = append-nil (joinedFields (headOf l .fields) (listedFields (listedNames (headOf l)))) in
-    rw e at (lines-fit l (kept 1 (headOf l .sig0)) [] k (omega arith))
+    rw e at (lines-fit l (signedStatus (headOf l)) (kept 1 (headOf l .sig0)) [] k (listed-status-size _ (k .signed)) (omega arith))
 
 -- the rules of a head's text are more than these
 pub text-signs : (l : List ℕ) → firstBroken (textRules l (headOf l)) ≡ 0 → Signs l
 unfolding textRules
 text-signs l h =
     let rules = rules-hold (textRules l (headOf l)) refl h in
-    record { status = search; lines = search; sig0 = search; names = search }
+    record { status = search; signed = search; lines = search; sig0 = search; names = search }
 
 pub head-text-kept : (terms : Terms) (l : List ℕ) → headFault terms l ≡ 0 → firstBroken (textRules l (headOf l)) ≡ 0
 unfolding headFault

@@ -12,8 +12,9 @@ use Rattle.stream.specs.Bytes.{same}
 use Rattle.stream.specs.Head.{Head, headOf, textRules, endsHead, isWholeHead}
 use Rattle.stream.specs.Limits.{headLimit, lineLimit, blockLimit, bodyLimit, idLimit}
 use Rattle.stream.specs.Lines.{crlf, endsWith}
+use Rattle.stream.specs.Range.{firstByte, isMultipleOf}
 use Rattle.stream.specs.Rule.{firstBroken}
-use Rattle.stream.specs.Stream.{Show, Past, Context, head, firstLine, blockData, dataEnd, nextLine, trailer, isWhole, blockOffset}
+use Rattle.stream.specs.Stream.{Show, range, Past, Context, head, firstLine, blockData, dataEnd, nextLine, trailer, isWhole, blockOffset}
 use Rattle.stream.specs.Trailer.{endsTrailer, isWholeTrailer}
 use Rattle.stream.proofs.Truth.{or-true}
 
@@ -51,6 +52,8 @@ pub record SoundShow (s : Show) : Type 0 where
   pub some : 1 ≤ s .size
   pub most : s .size ≤ blockLimit
   pub short-id : length (s .id) ≤ idLimit
+  -- the answer's bytes begin with a block
+  pub aligned : isMultipleOf (s .size) (firstByte (range s)) ≡ true
 
 -- n bytes after the blocks of p: a block's size, within the body's limit
 pub record SoundBlock (s : Show) (p : Past) (n : ℕ) : Type 0 where

@@ -4,28 +4,30 @@ use mathlib.Core.List.{List}
 use mathlib.Core.Path.{_≡_, refl}
 use Prim.Native.Nat.{ℕ, zero, suc, _+_, _*_, _≤_}
 use native.Mathlib.Omega.{arith}
-use native.Mathlib.Nat.{suc-mul, zero-mul, le-trans}
+use native.Mathlib.Nat.{suc-mul, zero-mul, le-trans, le-of-eq, sub-le, div-mul-le-self}
 use lib.Dec.{eqb, leb}
 use lib.ListN.{length}
 use borrow.Author.Tests.{leb-true, eqb-true}
 use Rattle.base64.specs.Base64.{isBase64}
 use Rattle.sha256.specs.Sha256.{sha256}
 use Rattle.sections.specs.Reading.{go, tell, ask, stop, Grant, granted, final}
-use Rattle.stream.specs.Blocks.{chunkSize, lineRules, lineFault}
+use Rattle.stream.specs.Blocks.{chunkSize, lineHash, lineRules, lineFault}
 use Rattle.stream.specs.Bytes.{same}
-use Rattle.stream.specs.Ends.{allFields, isClaimed, endsIn, endFault}
+use Rattle.stream.specs.Ends.{allFields, isChecked, endsIn, endFault}
 use Rattle.stream.specs.Events.{Question, Release, headAccepted, block, LastWord, closed, complete, refused}
-use Rattle.stream.specs.Head.{Head, headOf, textRules, callerRules, injectionId, blockSize}
+use Rattle.stream.specs.Head.{Head, headOf, textRules, callerRules, rangeOf, isRanged, injectionId, blockSize}
 use Rattle.stream.specs.Limits.{headLimit, blockLimit, bodyLimit, idLimit, timeDigits}
 use Rattle.stream.specs.Lines.{crlf, Field}
 use Rattle.stream.specs.Numbers.{isDecimal}
+use Rattle.stream.specs.Range.{Range, firstByte}
 use Rattle.stream.specs.Ring.{Ring}
 use Rattle.stream.specs.Signatures.{isInjection, isBsigs}
 use Rattle.stream.specs.Places.{dataEndPlace, trailerPlace}
-use Rattle.stream.specs.Stream.{Show, Past, nothing, after, Context, head, firstLine, blockData, dataEnd, nextLine, trailer, isWhole, Says, announced, unlessBroken, showOf, headQuestion, acceptHead, judgeHead, judgeFirstLine, judgeDataEnd, blockOffset, bodyWith, blockQuestion, acceptBlock, judgeNextLine, endQuestion, judgeEnd, judgeTrailer, judge}
+use Rattle.stream.specs.Stream.{Show, range, Past, startFrom, startOf, after, Context, head, firstLine, blockData, dataEnd, nextLine, trailer, isWhole, Says, announced, unlessBroken, showOf, headQuestion, acceptHead, judgeHead, judgeFirstLine, judgeDataEnd, blockOffset, bodyWith, releasedWith, blockQuestion, acceptBlock, judgeNextLine, endQuestion, judgeEnd, judgeTrailer, judge}
 use Rattle.stream.specs.Template.{isLike, kept}
 use Rattle.stream.specs.Terms.{Terms}
 use Rattle.stream.specs.Trailer.{isTrailer}
+use Rattle.stream.proofs.Aligned.{aligned-first, ranged-aligned}
 use Rattle.stream.proofs.EndString.{short-ends, end-fits}
 use Rattle.stream.proofs.MessageLaws.{message-length}
 use Rattle.stream.proofs.RulesHold.{rules-hold, head-rules-hold}
@@ -72,10 +74,10 @@ record LineKept (N sofar : ℕ) (full : Bool) (l : List ℕ) : Type 0 where
   whole : full || eqb (chunkSize l) 0 ≡ true
   body : sofar + chunkSize l ≤ bodyLimit
 
-line-kept : (N : ℕ) (due full : Bool) (sofar : ℕ) (l : List ℕ) → lineFault N due full sofar l ≡ 0 → LineKept N sofar full l
+line-kept : (N : ℕ) (r : Range) (due full : Bool) (sofar : ℕ) (l : List ℕ) → lineFault N r due full sofar l ≡ 0 → LineKept N sofar full l
 unfolding lineFault lineRules
-line-kept N due full sofar l e =
-    let (r6, (r8, (r7, (r9, rest)))) = rules-hold (lineRules N due full sofar l) refl e in
+line-kept N r due full sofar l e =
+    let (r6, (r8, (h8, (r7, (p7, (r9, rest)))))) = rules-hold (lineRules N r due full sofar l) refl e in
     record {
       most = leb-true _ _ (left-holds (leb (chunkSize l) N) (full || eqb (chunkSize l) 0) r7);
       whole = right-holds (leb (chunkSize l) N) (full || eqb (chunkSize l) 0) r7;
@@ -87,11 +89,20 @@ announced-sound : (s : Show) (p : Past) (total n : ℕ) → SoundShow s → tota
 announced-sound s p total zero k t h b = (k, t)
 announced-sound s p total (suc n) k t h b = record { show = k; some = omega arith; most = h; body = b (omega arith) }
 
+-- a part's first block starts where its bytes do, or before them
+pub start-most : (s : Show) (l : List ℕ) → blockOffset s (startOf s l) ≤ firstByte (range s)
+unfolding startFrom startOf
+start-most s l = by (firstByte (range s))
+  where
+    by : (a : ℕ) → startFrom a (s .size) (lineHash l) .blocks * s .size ≤ a
+    by zero = le-of-eq (zero-mul (s .size))
+    by (suc a) = div-mul-le-self (suc a) (s .size)
+
 first-sound : (s : Show) (l : List ℕ) → SoundShow s → SoundSays (judgeFirstLine s l)
 unfolding judgeFirstLine
 first-sound s l k = unless-sound _ _ _ λ e.
-    let r = line-kept (s .size) false true 0 l e in
-    announced-sound s nothing 0 (chunkSize l) k (omega arith) (r .most) (λ h. rw zero-mul (r .body))
+    let r = line-kept (s .size) (range s) false true (firstByte (range s)) l e in
+    announced-sound s (startOf s l) 0 (chunkSize l) k (omega arith) (r .most) (λ h. omega (arith, start-most s l, r .body))
 
 -- a block that another one follows has N bytes
 full-block : (s : Show) (p : Past) (b l : List ℕ) → LineKept (s .size) (bodyWith s p b) (eqb (length b) (s .size)) l
@@ -106,35 +117,36 @@ full-block s p b l r h =
     by false e w = absurd (omega (arith, eqb-true (chunkSize l) 0 w))
 
 next-sound : (s : Show) (p : Past) (b l : List ℕ) → SoundBlock s p (length b) → SoundSays (judgeNextLine s p b l)
-unfolding judgeNextLine acceptBlock blockQuestion
+unfolding judgeNextLine acceptBlock blockQuestion releasedWith
 next-sound s p b l k = unless-sound _ _ _ λ e.
-    let r = line-kept (s .size) true (eqb (length b) (s .size)) (bodyWith s p b) l e in
+    let r = line-kept (s .size) (range s) true (eqb (length b) (s .size)) (bodyWith s p b) l e in
     let o : blockOffset s p ≤ bodyLimit = omega (arith, k .body) in
     let m = message-length (s .id) (blockOffset s p) (p .hash) b (k .show .short-id) o in (
       omega arith,
       (
         (k .some, omega (arith, k .most, k .show .most), k .body),
-        announced-sound s (after p b) (bodyWith s p b) (chunkSize l) (k .show) (k .body) (r .most) (full-block s p b l r),
+        announced-sound s (after p b) (releasedWith s p b) (chunkSize l) (k .show) (le-trans (sub-le _ _) (k .body)) (r .most) (full-block s p b l r),
       ),
     )
 
 -- ---- the head
 
-show-sound : (ring : Ring) (h : Head) → HeadText h → isInjection (h .injection) ≡ true → isBsigs (h .bsigs) ≡ true → SoundShow (showOf ring h)
+show-sound : (ring : Ring) (h : Head) → HeadText h → isInjection (h .injection) ≡ true → isBsigs (h .bsigs) ≡ true → isRanged h ≡ true
+    → SoundShow (showOf ring h)
 unfolding showOf injectionId blockSize isInjection isBsigs
-show-sound ring h text i b =
+show-sound ring h text i b r =
     let s = h .injection in
     let t = h .bsigs in
     let id = within 1 idLimit _ (left-holds _ (isDecimal timeDigits (kept 1 s)) (right-holds (isLike s) _ i)) in
     let n = within 1 blockLimit _ (right-holds (isDecimal 5 (kept 1 t)) _ (right-holds (isBase64 32 (kept 0 t)) _ (right-holds (isLike t) _ b))) in
-    record { head = text; some = n .0; most = n .1; short-id = id .1 }
+    record { head = text; some = n .0; most = n .1; short-id = id .1; aligned = aligned-first (blockSize h) (rangeOf h) (ranged-aligned h r) }
 
 head-sound : (terms : Terms) (l : List ℕ) → length l ≤ headLimit → SoundSays (judgeHead terms l)
 unfolding judgeHead acceptHead headQuestion textRules callerRules
 head-sound terms l k = unless-sound _ _ (acceptHead (terms .ring) (headOf l)) λ e.
     let rules = head-rules-hold terms l e in
     let text : HeadText (headOf l) = record { text = l; says = refl; kept = head-text-kept terms l e; short = k } in
-    (signing-bound terms l e k, (tt, show-sound (terms .ring) (headOf l) text (search) (search)))
+    (signing-bound terms l e k, (tt, show-sound (terms .ring) (headOf l) text (search) (search) (search)))
 
 -- ---- any section
 
@@ -156,7 +168,7 @@ end-question-sound s fs total hash k e =
 
 claim-sound : (s : Show) (total : ℕ) (hash : List ℕ) (fs : List Field) → SoundShow s → total ≤ bodyLimit → SoundSays (judgeEnd s total hash fs)
 unfolding judgeEnd
-claim-sound s total hash fs k m = by (isClaimed fs)
+claim-sound s total hash fs k m = by (isChecked (range s) fs)
   where
     by : (t : Bool)
         → SoundSays

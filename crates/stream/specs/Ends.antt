@@ -13,6 +13,7 @@ use Rattle.stream.specs.Head.{Head, statusDigits, headKey, listedNames}
 use Rattle.stream.specs.Limits.{dataSizeDigits}
 use Rattle.stream.specs.Lines.{Field, textLines, fieldsOf}
 use Rattle.stream.specs.Numbers.{isDecimal, decimalValue}
+use Rattle.stream.specs.Range.{Range, whole, part}
 use Rattle.stream.specs.Rule.{Rule, rule, firstBroken}
 use Rattle.stream.specs.Signatures.{sig0Scan, keyText, createdText, namesText, headSignatureText, isSig0, splitNames, listedFields, responseStatusName, createdName}
 use Rattle.stream.specs.Signing.{joinedFields, signingText}
@@ -36,6 +37,11 @@ allFields h l = h .fields ++ fieldsOf (textLines l)
 -- there is any of the three, by its name: of "none of the three" is *closed* as before
 unfoldable pub isClaimed : List Field → Bool
 isClaimed fs = hasField digestName fs || (hasField dataSizeName fs || hasField sig1Name fs)
+
+-- the end that they claim is to be checked; request #104, of a part answer: "The end checks of #101 are skipped and the last word is *closed*."
+unfoldable pub isChecked : Range → List Field → Bool
+isChecked whole fs = isClaimed fs
+isChecked (part a b t) fs = false
 
 -- ---- what each says
 

@@ -11,7 +11,6 @@ use Rattle.octets.specs.Octets.{octets}
 use Rattle.base64.specs.Base64.{letterValue, isBase64Letter}
 use Rattle.scanner.specs.Form.{Class, Form, done, one, upTo, many, either, each, text, times, after}
 use Rattle.scanner.specs.Scanner.{Scanner}
-use Rattle.stream.specs.Blocks.{ouisig}
 use Rattle.stream.specs.Bytes.{between, isHex, isDigit, isTchar, isText}
 use Rattle.stream.specs.Lines.{crlf}
 use Rattle.stream.specs.Numbers.{decimalDigit}
@@ -57,9 +56,13 @@ lastLetter = record { has = isMultiple 16; sample = 65; member = first-multiple 
 unfoldable pub signatureForm : Form
 signatureForm = times 85 letter (one lastLetter (text (octets "==") done))
 
--- "1 to 8 hex digits of either case, then nothing or `;ouisig=` and 88 characters"
+-- `;ouisig=` or `;ouihash=`, whose first four bytes are the same, and 88 characters
+unfoldable pub extensionForm : Form
+extensionForm = text (octets ";oui") (either (text (octets "sig=") signatureForm) (text (octets "hash=") signatureForm))
+
+-- "1 to 8 hex digits of either case, then nothing or `;ouisig=` and 88 characters"; request #104: or "`;ouihash=` and 88 characters"
 unfoldable pub sizeForm : Form
-sizeForm = one hexByte (upTo 7 isHex (either (text ouisig signatureForm) done))
+sizeForm = one hexByte (upTo 7 isHex (either extensionForm done))
 
 unfoldable pub chunkForm : Form
 chunkForm = after sizeForm (text crlf done)

@@ -1,18 +1,20 @@
 -- The head: what it says, and the rules that it must keep, in the order in which they are tested (paper 01, "The head").
 -- Assumes nothing.
-use mathlib.Core.Bool.{Bool, false, _||_, not}
+use mathlib.Core.Bool.{Bool, false, _&&_, _||_, not}
 use mathlib.Core.List.{List, [], _∷_, _++_}
 use mathlib.Core.Option.{Option}
 use Prim.Native.Nat.{ℕ}
-use lib.Dec.{leb}
+use lib.Dec.{eqb, leb}
 use lib.ListN.{length, drop}
+use Rattle.octets.specs.Choice.{pick}
 use Rattle.octets.specs.Octets.{octets}
 use Rattle.base64.specs.Base64.{base64Bytes}
 use Rattle.stream.specs.Bytes.{same, sameName}
-use Rattle.stream.specs.Fields.{isProtectedDoubled, namesOf, hasField, valueOf}
+use Rattle.stream.specs.Fields.{isProtectedDoubled, namesOf, hasField, valueOf, countOf}
 use Rattle.stream.specs.Limits.{headLimit, fieldLimit}
 use Rattle.stream.specs.Lines.{crlf, endsWith, textLines, Field, areFieldLines, fieldsOf, isStatusLine, statusOf}
 use Rattle.stream.specs.Numbers.{decimalValue}
+use Rattle.stream.specs.Range.{Range, whole, contentRangeName, rangeScan, rangeSaid, isContentRange}
 use Rattle.stream.specs.Ring.{Ring, found, isFound}
 use Rattle.stream.specs.Rule.{Rule, rule, firstBroken}
 use Rattle.stream.specs.Signatures.{injectionScan, idText, timeText, isInjection, bsigsScan, keyText, blockSizeText, isBsigs, sig0Scan, createdText, namesText, headSignatureText, isSig0, splitNames, listedFields, isNameList, responseStatusName, createdName, versionName, uriName, injectionName, bsigsName, sig0Name}
@@ -58,6 +60,24 @@ headOf l = headWith (nth 0 (textLines l)) (drop 1 (textLines l)) (fieldsOf (drop
 unfoldable pub statusDigits : Head → List ℕ
 statusDigits h = statusOf (h .statusLine)
 
+-- request #104: a part answer, "status 206"
+unfoldable pub isPartial : Head → Bool
+isPartial h = same (statusDigits h) (octets "206")
+
+abbrev pub httpStatusName : List ℕ
+httpStatusName = octets "x-ouinet-http-status"
+
+-- the status that is signed: of a part answer `X-Ouinet-HTTP-Status` "stands for `(response-status)`"; "In other answers both are plain fields."
+unfoldable pub signedStatus : Head → List ℕ
+signedStatus h = pick (isPartial h) (valueOf httpStatusName (h .fields)) (statusDigits h)
+
+abbrev pub contentRange : Head → Scanned
+contentRange h = rangeScan (valueOf contentRangeName (h .fields))
+
+-- the bytes of the body that the answer carries
+unfoldable pub rangeOf : Head → Range
+rangeOf h = pick (isPartial h) (rangeSaid (contentRange h)) whole
+
 unfoldable pub injectionId : Head → List ℕ
 injectionId h = idText (h .injection)
 
@@ -93,7 +113,7 @@ signedOf h = signedFields (h .fields) (listedFields (listedNames h))
 unfoldable pub signingString : Head → List ℕ
 signingString h =
     signingText
-    (record { name = responseStatusName; value = statusDigits h }
+    (record { name = responseStatusName; value = signedStatus h }
     ∷ record { name = createdName; value = createdText (h .sig0) }
     ∷ joinedFields (h .fields) (listedFields (listedNames h)))
 
@@ -115,7 +135,12 @@ isOne (s ∷ t ∷ ss) d = same d s || isOne (t ∷ ss) d
 abbrev pub isStatus : List ℕ → Bool
 isStatus d = isOne statuses d
 
--- "All of 3 is tested first, then 4 and 5 in the order listed"
+-- request #104: "one `Content-Range`", with its rules
+unfoldable pub isRanged : Head → Bool
+isRanged h = not (isPartial h) || (eqb (countOf contentRangeName (h .fields)) 1 && isContentRange (blockSize h) (contentRange h))
+
+-- "All of 3 is tested first, then 4 and 5 in the order listed"; request #104, at the status's place: 206 with its range, and
+-- "`X-Ouinet-HTTP-Status`, one of the four old statuses, is needed"
 unfoldable pub textRules : List ℕ → Head → List Rule
 textRules l h =
     rule 3 (endsHead l)
@@ -125,7 +150,8 @@ textRules l h =
     ∷ rule 3 (not (isProtectedDoubled (namesOf (h .fields))))
     ∷ rule 4 (hasField versionName (h .fields))
     ∷ rule 5 (same (valueOf versionName (h .fields)) (octets "4"))
-    ∷ rule 4 (isStatus (statusDigits h))
+    ∷ rule 4 (isStatus (signedStatus h))
+    ∷ rule 4 (isRanged h)
     ∷ rule 4 (sameName (valueOf (octets "transfer-encoding") (h .fields)) (octets "chunked"))
     ∷ rule 4 (not (hasField (octets "content-length") (h .fields)))
     ∷ rule 4 (leb 1 (length (headUri h)))

@@ -2,6 +2,7 @@ pub mod Limits
 pub mod Bytes
 pub mod Numbers
 pub mod Template
+pub mod Range
 pub mod Lines
 pub mod Fields
 pub mod Rule

@@ -2,19 +2,20 @@
 -- data end by turns, after the 0 line the trailer. Assumes nothing.
 use mathlib.Core.Bool.{Bool, true, false}
 use mathlib.Core.List.{List, [], _++_}
-use Prim.Native.Nat.{ℕ, zero, suc, _+_}
+use Prim.Native.Nat.{ℕ, zero, suc, _+_, _-_, _/_}
 use lib.Dec.{eqb, leb}
 use lib.ListN.{length}
 use Rattle.sections.specs.Reading.{Log, Verdict, go, ask, stop, granted, final, Rules, reading}
 use Rattle.sha256.specs.Sha256.{sha256}
-use Rattle.stream.specs.Blocks.{isWholeLine, chunkSize, lineSignature, lineFault, chained, blockMessage, offsetOf}
+use Rattle.stream.specs.Blocks.{isWholeLine, chunkSize, lineSignature, lineHash, lineFault, chained, blockMessage, offsetOf}
 use Rattle.stream.specs.Bytes.{same}
-use Rattle.stream.specs.Ends.{allFields, isClaimed, endsIn, endSignature, endFault, endString}
+use Rattle.stream.specs.Ends.{allFields, isChecked, endsIn, endSignature, endFault, endString}
 use Rattle.stream.specs.Events.{Question, Release, headAccepted, block, LastWord, closed, complete, refused, placeOf}
-use Rattle.stream.specs.Head.{Head, isWholeHead, headOf, headFault, statusDigits, injectionId, blockSize, headSignature, signedOf, signingString, trustedBy}
+use Rattle.stream.specs.Head.{Head, isWholeHead, headOf, headFault, statusDigits, rangeOf, injectionId, blockSize, headSignature, signedOf, signingString, trustedBy}
 use Rattle.stream.specs.Lines.{crlf, Field}
 use Rattle.stream.specs.Numbers.{decimalValue}
 use Rattle.stream.specs.Places.{headPlace, linePlace, dataEndPlace, trailerPlace}
+use Rattle.stream.specs.Range.{Range, firstByte}
 use Rattle.stream.specs.Ring.{Ring, numberOf}
 use Rattle.stream.specs.Terms.{Terms}
 use Rattle.stream.specs.Trailer.{isWholeTrailer, isTrailer}
@@ -27,7 +28,12 @@ pub record Show : Type 0 where
   pub keyNumber : ℕ
   pub head : Head
 
--- what came before a block: how many blocks, the hash of the last of them, nothing where there is none, and the body: all their bytes
+-- the bytes of the body that the answer carries: whole and part answers are read alike (request #104)
+abbrev pub range : Show → Range
+range s = rangeOf (s .head)
+
+-- what comes before a block: how many blocks of the show, the hash of the last of them, nothing where there is none, and the bytes of those that this
+-- answer carries. The chain of hashes is started and continued here alone; a block's message takes the hash that it comes to.
 pub record Past : Type 0 where
   pub blocks : ℕ
   pub hash : List ℕ
@@ -35,6 +41,15 @@ pub record Past : Type 0 where
 
 abbrev pub nothing : Past
 nothing = record { blocks = 0; hash = []; body = [] }
+
+-- "Offsets start at a": before the part's first block come a / N blocks, since a is divisible by N; the hash of the last of them is given
+unfoldable pub startFrom : ℕ → ℕ → List ℕ → Past
+startFrom zero N hash = nothing
+startFrom (suc a) N hash = record { blocks = suc a / N; hash = hash; body = [] }
+
+-- request #104: "If a is above 0 the first chunk line carries `;ouihash=` and 88 characters", where l is that line
+unfoldable pub startOf : Show → List ℕ → Past
+startOf s l = startFrom (firstByte (range s)) (s .size) (lineHash l)
 
 abbrev pub after : Past → List ℕ → Past
 after p b = record { blocks = suc (p .blocks); hash = chained (p .hash) b; body = p .body ++ b }
@@ -90,9 +105,10 @@ unfoldable pub judgeHead : Terms → List ℕ → Says
 judgeHead terms l = unlessBroken (headFault terms l) (headPlace l) (acceptHead (terms .ring) (headOf l))
 
 -- "The first line carries no `ouisig`"; nothing is asked. No signature is due (false); there is no block before it that could be short
--- (true); and the body has no bytes so far (0).
+-- (true); the answer's bytes begin here; and none has come (0).
 unfoldable pub judgeFirstLine : Show → List ℕ → Says
-judgeFirstLine s l = unlessBroken (lineFault (s .size) false true 0 l) (linePlace l) (go (announced s nothing 0 (chunkSize l)))
+judgeFirstLine s l =
+    unlessBroken (lineFault (s .size) (range s) false true (firstByte (range s)) l) (linePlace l) (go (announced s (startOf s l) 0 (chunkSize l)))
 
 -- "judged when both have come"
 unfoldable pub judgeDataEnd : Show → Past → List ℕ → List ℕ → Says
@@ -101,9 +117,12 @@ judgeDataEnd s p b l = elim (same l crlf) [ true ↦ go (nextLine s p b) | false
 abbrev pub blockOffset : Show → Past → ℕ
 blockOffset s p = offsetOf (p .blocks) (s .size)
 
--- the bytes of the body up to and with the block b
+-- the bytes of the body up to and with the block b; and those of them that this answer carries: "Its total is the bytes released"
 abbrev pub bodyWith : Show → Past → List ℕ → ℕ
 bodyWith s p b = blockOffset s p + length b
+
+unfoldable pub releasedWith : Show → Past → List ℕ → ℕ
+releasedWith s p b = bodyWith s p b - firstByte (range s)
 
 -- "A good line with `ouisig` gives one for the block before: block message, that signature, the same record"
 unfoldable pub blockQuestion : Show → Past → List ℕ → List ℕ → Question
@@ -117,11 +136,11 @@ blockQuestion s p b l =
 unfoldable pub acceptBlock : Show → Past → List ℕ → List ℕ → Says
 acceptBlock s p b l =
     ask (blockQuestion s p b l)
-    (granted (block (blockOffset s p) b) (announced s (after p b) (bodyWith s p b) (chunkSize l)))
+    (granted (block (blockOffset s p) b) (announced s (after p b) (releasedWith s p b) (chunkSize l)))
 
 unfoldable pub judgeNextLine : Show → Past → List ℕ → List ℕ → Says
 judgeNextLine s p b l =
-    unlessBroken (lineFault (s .size) true (eqb (length b) (s .size)) (bodyWith s p b) l) (linePlace l) (acceptBlock s p b l)
+    unlessBroken (lineFault (s .size) (range s) true (eqb (length b) (s .size)) (bodyWith s p b) l) (linePlace l) (acceptBlock s p b l)
 
 -- "then a question over Sig1", with the head's record, since the ring is read only when the head is judged
 unfoldable pub endQuestion : Show → List Field → Question
@@ -129,10 +148,10 @@ endQuestion s fs =
     record { message = endString (s .head) (endsIn fs); signature = endSignature (endsIn fs); keyNumber = s .keyNumber }
 
 -- The end of the show, by the fields of its head and its trailer, where the body has `total` bytes and the SHA-256 `hash`: request #101's "none of
--- the three, *closed* as today", the rules of the end, and "A yes gives a new last word, *complete*, with the total".
+-- the three, *closed* as today", the rules of the end, and "A yes gives a new last word, *complete*, with the total". A part answer is closed unchecked.
 unfoldable pub judgeEnd : Show → ℕ → List ℕ → List Field → Says
 judgeEnd s total hash fs =
-    elim (isClaimed fs) [
+    elim (isChecked (range s) fs) [
       | true ↦ unlessBroken (endFault (s .head) fs total hash) 0 (ask (endQuestion s fs) (final (complete total)))
       | false ↦ stop (closed total)
     ]

@@ -46,6 +46,11 @@ pub fn accepts_head(outcome: &Outcome) -> bool {
     outcome.output.split(|&byte| byte == b'\n').any(|line| line.starts_with(b"head "))
 }
 
+/// Whether the head of a part answer was accepted.
+pub fn accepts_part(outcome: &Outcome) -> bool {
+    outcome.output.split(|&byte| byte == b'\n').any(|line| line == b"head 206")
+}
+
 /// A program without an exit status of its own ends with 0 whatever it was given.
 fn due_status(case: &Case, has_status: bool) -> i32 {
     match case.expected {
@@ -231,6 +236,21 @@ mod tests {
             ["", "closed 12\n", "question 303\n", "refused 10\n", "refused 12\n", "refused 1\n", "refused 16\n"]
         {
             assert!(!is_end_checked(&said(output)), "{output}");
+        }
+    }
+
+    #[test]
+    fn accepted_heads() {
+        for (output, is_accepted, is_part) in [
+            ("question 219\nhead 206\nquestion 83\n", true, true),
+            ("question 219\nhead 200\nquestion 83\n", true, false),
+            ("question 219\nhead 2060\n", true, false),
+            ("question 206\nrefused 10\n", false, false),
+            ("block 206 5\nclosed 206\n", false, false),
+            ("", false, false),
+        ] {
+            let said = said(output);
+            assert_eq!((accepts_head(&said), accepts_part(&said)), (is_accepted, is_part), "{output}");
         }
     }
 

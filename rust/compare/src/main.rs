@@ -1,17 +1,18 @@
 //! `compare PROGRAM_A PROGRAM_B --seed S --count N [--groups LIST] [--least-places P] [--least-repeated R] [--least-asked A]
-//! [--least-longer L] [--least-ends E] [--keep DIR] [--no-status-in-a]`: makes cases with the generator, runs both readers on each,
-//! and compares standard output and released bytes with each other, and these and the exit status with what the generator expects.
-//! Both are given `--where`, so that a refusal's line has the place of a wrong text. It counts the cases in which both refused a text
-//! at the same place, those in which both accepted a head with a name in several lines, those in which both refused a head because
-//! another URI was asked for, those in which both accepted a head of more bytes or fields than paper 01 allowed, and those in which
-//! both checked the end of the show; fewer than P, R, A, L or E are a failure. With the last option A is a program that has no exit
-//! status of its own: its complaints about a malformed file are held to the same rules, and it must end with 0. Cases that fail are
-//! kept in a folder each, under DIR or else under `compare-kept-S` in the folder for temporary files.
+//! [--least-longer L] [--least-ends E] [--least-parts T] [--keep DIR] [--no-status-in-a]`: makes cases with the generator, runs both
+//! readers on each, and compares standard output and released bytes with each other, and these and the exit status with what the
+//! generator expects. Both are given `--where`, so that a refusal's line has the place of a wrong text. It counts the cases in which both
+//! refused a text at the same place, those in which both accepted a head with a name in several lines, those in which both refused a
+//! head because another URI was asked for, those in which both accepted a head of more bytes or fields than paper 01 allowed, those in
+//! which both checked the end of the show, and those in which both accepted the head of a part answer; fewer than P, R, A, L, E or T are
+//! a failure. With the last option A is a program that has no exit status of its own: its complaints about a malformed file are held to
+//! the same rules, and it must end with 0. Cases that fail are kept in a folder each, under DIR or else under `compare-kept-S` in the
+//! folder for temporary files.
 
 mod judge;
 mod run;
 
-use judge::{accepts_head, complaints, has_place, is_end_checked, is_other_show};
+use judge::{accepts_head, accepts_part, complaints, has_place, is_end_checked, is_other_show};
 use run::{Outcome, Workshop};
 use std::fs;
 use std::path::{Path, PathBuf};
@@ -21,7 +22,7 @@ use streams::sequence::{self, Group, Sequence};
 
 const USAGE: &str =
     "usage: compare PROGRAM_A PROGRAM_B --seed S --count N [--groups LIST] [--least-places P] [--least-repeated R] \
-    [--least-asked A] [--least-longer L] [--least-ends E] [--keep DIR] [--no-status-in-a]";
+    [--least-asked A] [--least-longer L] [--least-ends E] [--least-parts T] [--keep DIR] [--no-status-in-a]";
 
 fn main() -> ExitCode {
     let words: Vec<String> = std::env::args().skip(1).collect();
@@ -47,7 +48,7 @@ struct Settings {
     have_status: [bool; 2],
 }
 
-/// Of the cases that passed, those of five kinds.
+/// Of the cases that passed, those of six kinds.
 #[derive(Default)]
 struct Counts {
     /// Both refused a text at the same place.
@@ -60,6 +61,8 @@ struct Counts {
     longer: usize,
     /// Both checked the end of the show.
     ends: usize,
+    /// Both accepted the head of a part answer.
+    parts: usize,
 }
 
 impl Counts {
@@ -70,6 +73,7 @@ impl Counts {
         self.asked += usize::from(outcomes.iter().all(is_other_show));
         self.longer += usize::from(accepted && case.has_longer_head());
         self.ends += usize::from(outcomes.iter().all(is_end_checked));
+        self.parts += usize::from(outcomes.iter().all(accepts_part));
     }
 
     /// Tells the counts, and gives how many of them are too low.
@@ -80,6 +84,7 @@ impl Counts {
             ("refusals of another show", self.asked, least.asked),
             ("accepted heads of more bytes or fields than before", self.longer, least.longer),
             ("checked ends of shows", self.ends, least.ends),
+            ("accepted heads of part answers", self.parts, least.parts),
         ];
         for (what, count, least) in kinds {
             println!("{count} {what} were compared");
@@ -108,6 +113,7 @@ impl Settings {
                 "--least-asked" => least.asked = number(word, value()?)? as usize,
                 "--least-longer" => least.longer = number(word, value()?)? as usize,
                 "--least-ends" => least.ends = number(word, value()?)? as usize,
+                "--least-parts" => least.parts = number(word, value()?)? as usize,
                 "--keep" => keep = Some(PathBuf::from(value()?)),
                 "--no-status-in-a" => have_status[0] = false,
                 other if other.starts_with("--") => return Err(format!("no option {other}\n{USAGE}")),

@@ -4,6 +4,7 @@
 use crate::buffers::{too_short, Buffers, Lengths};
 use crate::due::same;
 use crate::material::{ring_bytes, Material};
+use crate::state::{self, number, put};
 use crate::tally::Tally;
 use ouinet_reader::raw::{self, Outcome};
 use streams::asked::other_uri;
@@ -34,8 +35,10 @@ const NUMBERS: [u64; 21] = [
     u64::MAX,
 ];
 /// Where the state has its numbers: phase, two counts, accepted, status, block size, key, the id's length, block number,
-/// released; then, of the hash of the body, two of its eight words, the first bytes that wait for the rest of a unit, and a count.
-const PLACES: [usize; 14] = [0, 8, 16, 24, 32, 40, 48, 120, 128, 328, 336, 392, 400, 464];
+/// released; of the hash of the body, two of its eight words, the first bytes that wait for the rest of a unit, and a count; then the four
+/// about a part answer.
+const PLACES: [usize; 18] =
+    [0, 8, 16, 24, 32, 40, 48, 120, 128, 328, 336, 392, 400, 464, state::KIND, state::FIRST, state::LAST, state::TOTAL];
 /// The phase in which the end of the show is in question, and the one in which it is complete. There is none beyond.
 const END_ASKED: u64 = 10;
 const COMPLETE: u64 = 11;
@@ -48,18 +51,42 @@ pub fn check(buffers: &Buffers, material: &Material, rng: &mut Rng, tally: &mut 
     forge(&mut buffers, rng);
     for _ in 0..rng.between(1, 4) {
         tally.forged += 1;
+        other_kind(&buffers, material, rng)?;
         step(&mut buffers, material, rng)?;
     }
     Ok(())
 }
 
-/// Changes the state: all of it, some bytes, some numbers, or its phase to one about an end that nobody has come to.
+/// A state that is neither of a part answer nor of a whole one is read as that of a whole one: the same call says the same and leaves the
+/// same in the working buffers.
+fn other_kind(buffers: &Buffers, material: &Material, rng: &mut Rng) -> Result<(), String> {
+    let call = draw(material, rng);
+    let ring = ring_bytes(&material.ring);
+    let other = 2 + rng.next_u64() % (u64::MAX - 1);
+    let [one, two] = [0, other].map(|kind| {
+        let mut buffers = buffers.clone();
+        put(buffers.state.lend(raw::STATE_SIZE), state::KIND, kind);
+        let lengths = buffers.whole();
+        make(&mut buffers, &call, &ring, &lengths);
+        buffers
+    });
+    for (name, one, two) in [
+        ("result", &one.result, &two.result),
+        ("head", &one.head, &two.head),
+        ("block", &one.block, &two.block),
+        ("question", &one.question, &two.question),
+    ] {
+        same(&format!("the {name} of a state of kind {other}"), &two.get(), &one.get())?;
+    }
+    Ok(())
+}
+
+/// Changes the state: all of it, some bytes, some numbers, its phase to one about an end that nobody has come to, or which bytes of a show
+/// it is to have.
 fn forge(buffers: &mut Buffers, rng: &mut Rng) {
     let length = buffers.state.len();
     let state = buffers.state.lend(length);
-    let put =
-        |state: &mut [u8], place: usize, number: u64| state[place..place + 8].copy_from_slice(&number.to_le_bytes());
-    match rng.below(5) {
+    match rng.below(6) {
         0 => {
             let bytes = rng.bytes(raw::STATE_SIZE);
             state[..raw::STATE_SIZE].copy_from_slice(&bytes);
@@ -76,6 +103,12 @@ fn forge(buffers: &mut Buffers, rng: &mut Rng) {
             // The trailer's bytes and the body's length, or the total
             put(state, 8, *rng.pick(&NUMBERS));
             put(state, 16, *rng.pick(&NUMBERS));
+        }
+        3 => {
+            put(state, state::KIND, *rng.pick(&[1, 1, 1, 0, 2, u64::MAX]));
+            for place in [state::FIRST, state::LAST, state::TOTAL] {
+                put(state, place, *rng.pick(&NUMBERS));
+            }
         }
         _ => {
             for _ in 0..rng.between(1, 4) {
@@ -119,7 +152,7 @@ fn step(buffers: &mut Buffers, material: &Material, rng: &mut Rng) -> Result<(),
             _ => lengths.holds.question = too_short(raw::QUESTION_SIZE, rng),
         }
     }
-    let due = match first_number(buffers.state.get()) {
+    let due = match number(buffers.state.get(), 0) {
         _ if short => Some(2),
         COMPLETE.. => Some(1),
         END_ASKED if !matches!(call, Call::Answer(_)) => Some(1),
@@ -166,10 +199,6 @@ fn check_word(now: &Buffers, before: &Buffers, call: &Call, word: u8, due: Optio
         same("the question after a refusal 1 or 2", &now.question.get(), &before.question.get())?;
     }
     Ok(())
-}
-
-fn first_number(state: &[u8]) -> u64 {
-    state[..8].iter().rev().fold(0, |number, &byte| number << 8 | u64::from(byte))
 }
 
 fn make(buffers: &mut Buffers, call: &Call, ring: &[u8], lengths: &Lengths) -> u8 {

@@ -4,10 +4,12 @@ use crate::buffers::{too_short, Buffers, Guarded, Lengths};
 use crate::due::{count, result_of, same, word_of};
 use crate::forged;
 use crate::material::{ring_bytes, Material};
+use crate::state;
 use crate::tally::Tally;
 use ouinet_reader::raw;
 use second::calls::{Calls, Contents, Outcome, Word};
 use second::event::Refusal;
+use second::part::STATUS;
 use second::plain::Kind;
 use second::ring::Record;
 use streams::asked::other_uri;
@@ -21,7 +23,7 @@ const LONG: usize = 40_000;
 /// Some lists hurry to the last bytes of their stream, no more than so many, since small pieces alone seldom come to a trailer.
 const LAST_PART: usize = 900;
 /// Names that are asked for beside those that the head has and lists.
-const NAMES: [&[u8]; 12] = [
+const NAMES: [&[u8]; 14] = [
     b"X-Ouinet-URI",
     b"x-ouinet-sig0",
     b"Transfer-Encoding",
@@ -34,6 +36,8 @@ const NAMES: [&[u8]; 12] = [
     b"Digest",
     b"X-Ouinet-Data-Size",
     b"x-ouinet-sig1",
+    b"Content-Range",
+    b"X-Ouinet-HTTP-Status",
 ];
 
 /// A ring as the library is lent it, and as the second reader is told.
@@ -128,13 +132,25 @@ impl<'a> List<'a> {
             self.expect(&outcome);
             count(&outcome.word, tally);
             tally.late_uris += u64::from(is_late_uri && !leaves_all(&outcome.word));
-            let is_accepted = matches!(outcome.word, Word::HeadAccepted { .. });
-            tally.longer += u64::from(is_accepted && head::is_longer(self.calls.bytes()));
-            tally.ends += u64::from(matches!(outcome.word, Word::Question(_)) && self.is_at_end());
+            self.count_kinds(&outcome.word, tally);
         }
         self.buffers.check()?;
+        self.check_part()?;
         self.check_block()?;
         self.check_value(tally)
+    }
+
+    /// Counts what is special about a word.
+    fn count_kinds(&self, word: &Word, tally: &mut Tally) {
+        let is_accepted = matches!(word, Word::HeadAccepted { .. });
+        tally.longer += u64::from(is_accepted && head::is_longer(self.calls.bytes()));
+        tally.ends += u64::from(matches!(word, Word::Question(_)) && self.is_at_end());
+        tally.parts += u64::from(matches!(word, Word::HeadAccepted { status: STATUS }));
+        tally.closed_parts += u64::from(matches!(word, Word::Closed { .. }) && self.is_part());
+    }
+
+    fn is_part(&self) -> bool {
+        self.calls.reading().accepted.is_some_and(|head| head.part.is_some())
     }
 
     /// Whether a call is lent another URI than the one that fits, when the head has been judged.
@@ -265,6 +281,15 @@ impl<'a> List<'a> {
         self.buffers.head.expect(&contents.head);
         self.buffers.block.expect(&contents.block);
         self.buffers.question.expect(&contents.question);
+    }
+
+    /// Which bytes of its show an accepted head says that come.
+    fn check_part(&self) -> Result<(), String> {
+        let reading = self.calls.reading();
+        match &reading.accepted {
+            Some(head) if !reading.is_final() => state::check(self.buffers.state.get(), head.part),
+            _ => Ok(()),
+        }
     }
 
     /// The handed-out block, and none from buffers that are too short.

@@ -9,6 +9,7 @@ use streams::damage;
 use streams::ends;
 use streams::head;
 use streams::longer;
+use streams::parts;
 use streams::plan::{ring_text, Built};
 use streams::random;
 use streams::repeated;
@@ -57,7 +58,8 @@ impl Material {
 
 /// What materials are drawn from.
 pub struct Pool {
-    /// The example, each rule broken on it, both sides of each limit, repeated fields, asked URIs, longer heads, and ends of shows.
+    /// The example, each rule broken on it, both sides of each limit, repeated fields, asked URIs, longer heads, ends of shows, and part
+    /// answers.
     fixed: Vec<Material>,
     small: Vec<Built>,
     hits: Vec<damage::Hit>,
@@ -66,9 +68,17 @@ pub struct Pool {
 
 impl Pool {
     pub fn new() -> Self {
-        let groups =
-            [Group::Example, Group::Rules, Group::Bounds, Group::Repeated, Group::Asked, Group::Longer, Group::Ends];
-        let small = damage::streams();
+        let groups = [
+            Group::Example,
+            Group::Rules,
+            Group::Bounds,
+            Group::Repeated,
+            Group::Asked,
+            Group::Longer,
+            Group::Ends,
+            Group::Parts,
+        ];
+        let small = [damage::streams(), vec![parts::small()]].concat();
         Pool {
             fixed: Sequence::new(1, &groups).map(Material::of_case).collect(),
             hits: damage::every_place(&small),
@@ -78,7 +88,7 @@ impl Pool {
     }
 
     pub fn draw(&self, rng: &mut Rng) -> Material {
-        match rng.below(20) {
+        match rng.below(24) {
             0 | 1 => rng.pick(&self.fixed).clone(),
             2 | 3 => Material::of_case(damage::case(*rng.pick(&self.hits), &self.small, rng)),
             4 => Material::of_built("a small stream", rng.pick(&self.small)),
@@ -90,7 +100,8 @@ impl Pool {
             10 | 17 => Material::of_case(asked::case(&self.rules, rng)),
             11 => Material::of_case(longer::case(rng)),
             12..=15 => Material::of_case(ends::case(rng)),
-            _ => Material::of_built("a random stream", &random::plan(rng).build()),
+            18..=21 => Material::of_case(parts::case(&self.rules, rng)),
+            _ => Material::of_built("a random stream", &random::built(rng)),
         }
     }
 

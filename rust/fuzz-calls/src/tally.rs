@@ -24,6 +24,10 @@ pub struct Tally {
     pub repeated: u64,
     /// Accepted heads of more bytes or fields than before request #108.
     pub longer: u64,
+    /// Accepted heads of part answers.
+    pub parts: u64,
+    /// Part answers that were closed.
+    pub closed_parts: u64,
     /// Feeds that were lent another URI when the head had been judged, and were read all the same: it is not looked at then. Those that are
     /// refused with 1 or 2, or are answered that a buffer is too short, show nothing of it and do not count.
     pub late_uris: u64,
@@ -38,6 +42,8 @@ impl Tally {
         self.values += other.values;
         self.repeated += other.repeated;
         self.longer += other.longer;
+        self.parts += other.parts;
+        self.closed_parts += other.closed_parts;
         self.late_uris += other.late_uris;
         self.places += other.places;
         self.ends += other.ends;
@@ -63,6 +69,7 @@ impl fmt::Display for Tally {
         writeln!(out, "\nrefusals with a place {}", self.places)?;
         write!(out, "buffers too short for any answer {}, values handed out {}, ", self.too_short, self.values)?;
         write!(out, "counts of a repeated field {}, accepted longer heads {}, ", self.repeated, self.longer)?;
-        write!(out, "other URIs after the head {}", self.late_uris)
+        writeln!(out, "other URIs after the head {}", self.late_uris)?;
+        write!(out, "accepted heads of part answers {}, closed part answers {}", self.parts, self.closed_parts)
     }
 }

@@ -29,6 +29,9 @@ fn some_lists() {
     assert!(tally.refusals[16] >= 100, "only {} heads were another show's", tally.refusals[16]);
     assert!(tally.ends >= 60, "only {} questions were about the end of a show", tally.ends);
     assert!(tally.words[usize::from(raw::COMPLETE)] >= 50, "only {} shows were complete", tally.words[6]);
+    let heads = tally.words[usize::from(raw::HEAD)];
+    assert!(tally.parts >= 150 && tally.parts * 8 >= heads, "only {} of {heads} heads were of parts", tally.parts);
+    assert!(tally.closed_parts >= 50, "only {} part answers were closed", tally.closed_parts);
     assert!(tally.late_uris >= 1000, "only {} feeds after the head had another URI", tally.late_uris);
 }
 

@@ -15,6 +15,10 @@ const ADDED: [&[u8]; 2] = [b"digest", b"x-ouinet-data-size"];
 pub const NOT_CHECKED: &str =
     "whether the show is complete was not checked: the stream has none of Digest, X-Ouinet-Data-Size and X-Ouinet-Sig1";
 
+/// What is said of a part answer with which the body has all bytes.
+pub const PART_NOT_CHECKED: &str =
+    "whether the show is complete was not checked: the end of a part answer, and that length, are not signed";
+
 /// What is said after a no to the question about the end.
 pub const WRONG_SIGNATURE: &str =
     "the signature over the show's end, X-Ouinet-Sig1, is wrong: the stream was changed on its way, or not signed with this key";

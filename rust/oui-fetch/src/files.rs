@@ -3,8 +3,8 @@
 use crate::Complaint;
 use ouinet_reader::raw::HEAD_SIZE;
 use ouinet_reader::{head_uri, Ring};
-use std::fs::File;
-use std::io::{self, Cursor, Read, Write};
+use std::fs::{File, TryLockError};
+use std::io::{self, Cursor, Read};
 use std::os::fd::{AsFd, BorrowedFd};
 use std::os::unix::fs::MetadataExt;
 use std::path::Path;
@@ -12,7 +12,7 @@ use std::path::Path;
 /// No good ring comes near to so many bytes.
 const MOST_RING: u64 = 65_536;
 
-fn failed(path: &Path, error: io::Error) -> Complaint {
+pub fn failed(path: &Path, error: io::Error) -> Complaint {
     format!("{}: {error}", path.display())
 }
 
@@ -109,7 +109,7 @@ pub fn stream_name(path: Option<&Path>) -> String {
 }
 
 /// A second handle of a standard stream, without its buffer: blocks are large and go out at once.
-fn unbuffered(stream: BorrowedFd) -> io::Result<File> {
+pub fn unbuffered(stream: BorrowedFd) -> io::Result<File> {
     Ok(stream.try_clone_to_owned()?.into())
 }
 
@@ -121,29 +121,20 @@ pub fn open_stream(path: Option<&Path>) -> Result<Source, Complaint> {
     opened.map(Source::new).map_err(|error| format!("{}: {error}", stream_name(path)))
 }
 
-/// Where the body goes.
-pub struct Target {
-    file: File,
-    name: String,
+/// A body does not go where its stream comes from.
+pub fn check_other(path: &Path, source: &File) -> Result<(), Complaint> {
+    if is_same(path, source) {
+        return Err(format!("{}: the body would be written over the stream", path.display()));
+    }
+    Ok(())
 }
 
-impl Target {
-    /// Makes the file anew, unless it is the one that the stream comes from.
-    pub fn open(path: Option<&Path>, source: &File) -> Result<Self, Complaint> {
-        let Some(path) = path else {
-            let name = "standard output".to_string();
-            let file = unbuffered(io::stdout().as_fd()).map_err(|error| format!("{name}: {error}"))?;
-            return Ok(Target { file, name });
-        };
-        if is_same(path, source) {
-            return Err(format!("{}: the body would be written over the stream", path.display()));
-        }
-        let file = File::create(path).map_err(|error| failed(path, error))?;
-        Ok(Target { file, name: path.display().to_string() })
-    }
-
-    pub fn write(&mut self, block: &[u8]) -> Result<(), Complaint> {
-        self.file.write_all(block).map_err(|error| format!("{}: {error}", self.name))
+/// Keeps other programs like this one from a body while it is written.
+pub fn lock(path: &Path, body: &File) -> Result<(), Complaint> {
+    match body.try_lock() {
+        Err(TryLockError::WouldBlock) => Err(format!("{}: another oui-fetch is writing it", path.display())),
+        // Where files cannot be locked, they can still be written
+        _ => Ok(()),
     }
 }
 

@@ -1,25 +1,18 @@
 //! Events as lines of JSON.
 
-use ouinet_reader::{Event, Reader, Refusal};
+use ouinet_reader::{Event, PartRange, Reader, Refusal};
 use std::fmt::Write;
 
-/// The line of an event, without its line feed. The last one says where any URI would do.
-pub fn line(reader: &Reader, event: &Event, any_uri: bool) -> String {
-    let mut line = members(reader, event);
-    if any_uri && event.is_final() {
-        line.push_str(r#","any_uri":true"#);
-    }
-    format!("{{{line}}}")
-}
-
-fn members(reader: &Reader, event: &Event) -> String {
+/// What the line of an event has between its braces.
+pub fn members(reader: &Reader, event: &Event) -> String {
     match event {
         Event::Question(question) => {
             format!(r#""event":"question","length":{},"record":{}"#, question.message.len(), question.record)
         }
         Event::HeadAccepted { status } => {
             let uri = quoted(&reader.value("X-Ouinet-URI"));
-            format!(r#""event":"head","status":{status},"uri":{uri}"#)
+            let range = reader.range().map_or(String::new(), range);
+            format!(r#""event":"head","status":{status},"uri":{uri}{range}"#)
         }
         Event::Block { offset, bytes } => {
             format!(r#""event":"block","offset":{offset},"length":{}"#, bytes.len())
@@ -28,6 +21,18 @@ fn members(reader: &Reader, event: &Event) -> String {
         Event::Complete { total } => format!(r#""event":"complete","total":{total}"#),
         Event::Refused(refusal) => refused(reader, *refusal),
     }
+}
+
+/// What the last event's line has besides: that any URI would do, and how many bytes a body has that is gone on with.
+pub fn last_members(any_uri: bool, body: Option<u64>) -> String {
+    let any_uri = if any_uri { r#","any_uri":true"# } else { "" };
+    let body = body.map_or(String::new(), |body| format!(r#","body":{body}"#));
+    format!("{any_uri}{body}")
+}
+
+/// Which bytes of the show a part answer has.
+fn range(PartRange { first, last, total }: PartRange) -> String {
+    format!(r#","range":{{"first":{first},"last":{last},"total":{total}}}"#)
 }
 
 /// Of another show the line has both URIs, too.

@@ -19,6 +19,14 @@ impl Progress {
         Progress { shows, start: Instant::now(), last: None }
     }
 
+    /// What is done before anything is verified, where that may take a while.
+    pub fn say(&mut self, what: &str) {
+        if self.shows {
+            self.last = Some(Instant::now());
+            self.put(&format!("\r{what} ..\x1b[K"));
+        }
+    }
+
     /// So many bytes are verified now.
     pub fn show(&mut self, bytes: u64) {
         if !self.shows || self.last.is_some_and(|last| last.elapsed() < PAUSE) {

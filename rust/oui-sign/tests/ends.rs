@@ -1,18 +1,12 @@
 //! What is signed is read by the second reader, every signature verified: with the fields about its end a show is complete, wherever they
 //! stand, and without them it is closed.
 
+mod common;
+
+use common::{read, signer, written, URI};
 use oui_sign::show::{sum_of, Fault, Show};
 use second::event::Event;
-use second::reader::Reader;
-use second::ring::Record;
-use sodium::Signer;
 use streams::options::Options;
-
-const URI: &str = "https://example.com/show";
-
-fn signer() -> Signer {
-    Signer::from_seed(&[9; 32])
-}
 
 fn show(words: &str) -> Result<Show, String> {
     let words: Vec<String> = words.split(' ').map(str::to_string).collect();
@@ -23,37 +17,7 @@ fn show(words: &str) -> Result<Show, String> {
 
 /// The stream of a body.
 fn signed(words: &str, body: &[u8]) -> Vec<u8> {
-    let mut stream = show(words).and_then(|show| show.stream(signer())).expect("a good head");
-    if stream.wants_sum() {
-        stream.set_sum(sum_of(body).expect("a body in memory")).expect("a head with room");
-    }
-    let mut out = Vec::new();
-    stream.write(body, &mut out).expect("a stream in memory");
-    out
-}
-
-/// The last event, and the body.
-fn read(stream: &[u8]) -> (Event, Vec<u8>) {
-    let ring = vec![Record { key: signer().public, first: 0, last: u64::MAX }];
-    let mut reader = Reader::new(ring, URI.as_bytes().to_vec());
-    let (mut body, mut rest) = (Vec::new(), stream);
-    loop {
-        let (taken, event) = reader.feed(&rest[..rest.len().min(1000)]).expect("in turn");
-        rest = &rest[taken..];
-        let event = match event {
-            Some(Event::Question(question)) => {
-                let good = sodium::verify(&signer().public, &question.message, &question.signature);
-                reader.answer(good).expect("a question is open")
-            }
-            Some(event) => event,
-            None => continue,
-        };
-        body.extend_from_slice(reader.block());
-        if event.is_final() {
-            assert!(rest.is_empty(), "{} bytes are left after {event}", rest.len());
-            return (event, body);
-        }
-    }
+    written(show(words).and_then(|show| show.stream(signer())).expect("a good head"), body)
 }
 
 #[test]
@@ -72,8 +36,8 @@ fn wherever_they_stand() {
                 (" --ends head", Event::Complete { total }),
                 (" --ends none", Event::Closed { total }),
             ] {
-                let (event, out) = read(&signed(&words(ends), body));
-                assert_eq!((event, &out[..]), (last, body), "blocks of {block_size},{ends}");
+                let out = read(&signed(&words(ends), body));
+                assert_eq!((out.last, &out.body[..]), (last, body), "blocks of {block_size},{ends}");
             }
         }
     }
@@ -84,7 +48,7 @@ fn with_fields_that_are_repeated() {
     for ends in ["head", "trailer"] {
         let words =
             format!("--uri {URI} --ends {ends} --header Via:a --header Vary:b --header via:c --header Trailer:X");
-        assert_eq!(read(&signed(&words, b"abc")).0, Event::Complete { total: 3 });
+        assert_eq!(read(&signed(&words, b"abc")).last, Event::Complete { total: 3 });
     }
 }
 

@@ -26,6 +26,9 @@
 //!         if let Event::Block { bytes, .. } = event {
 //!             body.extend_from_slice(bytes);
 //!         }
+//!         if reader.range().is_some() {
+//!             return Err(std::io::Error::other("a part of the show came, and all of it was asked for"));
+//!         }
 //!         if let Some(sentence) = reader.another_show() {
 //!             println!("{sentence}");
 //!         }
@@ -118,12 +121,40 @@
 //!
 //! Where none of the three is there, the last event is [`Event::Closed`]: the framing ended well. That does not say that the body is
 //! complete: a stream that was cut after a block and closed by someone on its way, who also leaves the three out, reads like a shorter one.
+//!
+//! # Part answers
+//!
+//! Who asks for a range of a show gets some of its blocks, with status 206, and [`Reader::range`] says which. The offset of each
+//! [`Event::Block`] is that in the whole show. The fields about the end are not looked at, so the last event is [`Event::Closed`], with the
+//! length of the part:
+//!
+//! ```
+//! use ouinet_reader::{Event, PartRange, Reader};
+//!
+//! /// Where the first block belongs, or why the head will not do.
+//! fn head_came(reader: &Reader, have: u64) -> Result<u64, &'static str> {
+//!     match reader.range() {
+//!         None => Ok(0), // the whole show
+//!         Some(PartRange { first, .. }) if first <= have => Ok(first),
+//!         Some(_) => Err("the part begins behind what is there"),
+//!     }
+//! }
+//! ```
+//!
+//! A part may come where the whole show was asked for, from anybody on the way. A program that wants the whole show must look at
+//! [`Reader::range`] when the head is accepted, and not put the blocks of a part where the show's beginning belongs.
+//!
+//! To go on with a body of which the beginning is there, hold [`Reader::id`], [`Reader::block_size`] and the key of the questions against
+//! those that the beginning came with. The last 64 bytes of a block's question are the hash of the block, chained: SHA-512 of the hash of the
+//! block before and the block. So where the first new block's question ends in the SHA-512 of the chained hash of what is there and that
+//! block, its signature is over what is there, too.
 
 #![deny(missing_docs)]
 #![deny(unsafe_code)]
 
 mod base64;
 mod event;
+mod part;
 pub mod raw;
 mod reader;
 mod refusal;
@@ -133,6 +164,7 @@ mod section;
 mod uri;
 
 pub use event::{Event, Question};
+pub use part::PartRange;
 pub use reader::{Fed, NotDue, Reader};
 pub use refusal::Refusal;
 pub use ring::{Record, Ring, RingFault, MOST_RECORDS};

@@ -9,7 +9,7 @@
 #![allow(unsafe_code)]
 
 /// The least length of a state.
-pub const STATE_SIZE: usize = 472;
+pub const STATE_SIZE: usize = 504;
 /// Where a state has the number of its phase.
 pub(crate) const STATE_PHASE: usize = 0;
 /// The phases in which a section is under way that is judged by its text.
@@ -22,6 +22,19 @@ pub(crate) const PHASE_TRAILER: u64 = 7;
 pub(crate) const STATE_COUNT: usize = 8;
 /// Where a state has the length of the accepted head.
 pub(crate) const STATE_ACCEPTED: usize = 24;
+/// Where a state has the size of a block.
+pub(crate) const STATE_BLOCK_SIZE: usize = 40;
+/// Where a state has the show's id, and the room for it.
+pub(crate) const STATE_ID: usize = 56;
+pub(crate) const ID_ROOM: usize = 64;
+/// Where a state has the length of the id.
+pub(crate) const STATE_ID_LENGTH: usize = 120;
+/// Where a state has 1 if the answer is a part of the show.
+pub(crate) const STATE_PART: usize = 472;
+/// Where a state has the places of a part's first and last byte, and the length of the show.
+pub(crate) const STATE_FIRST: usize = 480;
+pub(crate) const STATE_LAST: usize = 488;
+pub(crate) const STATE_TOTAL: usize = 496;
 /// The least length of a head buffer: a head, and a trailer too, has at most so many bytes.
 pub const HEAD_SIZE: usize = 32_768;
 /// The least length of a block buffer.
@@ -41,11 +54,11 @@ pub const RESULT_SIZE: usize = 96;
 pub const MORE: u8 = 0;
 /// The word of a question; its numbers are the message's length and the record's number.
 pub const QUESTION: u8 = 1;
-/// The word of an accepted head; its number is the status.
+/// The word of an accepted head; its number is the status, 206 for a part answer.
 pub const HEAD: u8 = 2;
-/// The word of a released block; its numbers are the offset and the length.
+/// The word of a released block; its numbers are the offset in the show and the length.
 pub const BLOCK: u8 = 3;
-/// The word of a closed stream, which has no end fields; its number is the body's length.
+/// The word of a closed stream, which has no end fields or is a part answer; its number is how many bytes were released.
 pub const CLOSED: u8 = 4;
 /// The word of a refusal; its numbers are the refusal's and, with 3 and 6, where the section's text goes wrong.
 pub const REFUSED: u8 = 5;

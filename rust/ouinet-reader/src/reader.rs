@@ -1,6 +1,7 @@
 //! The reader with buffers of its own.
 
 use crate::event::{Event, Question};
+use crate::part::PartRange;
 use crate::raw::{self, Lent, Outcome};
 use crate::refusal::Refusal;
 use crate::ring::Ring;
@@ -125,6 +126,28 @@ impl Reader {
         &self.head[..length]
     }
 
+    /// Which bytes of the show come, where the accepted head is that of a part answer (status 206); else nothing. Ask for it at
+    /// [`Event::HeadAccepted`]: a part may come where the whole show was asked for, and then its blocks are not the body from its first byte on.
+    pub fn range(&self) -> Option<PartRange> {
+        self.is_accepted().then(|| PartRange::of(&self.state)).flatten()
+    }
+
+    /// The show's id, once the head is accepted: the parts of one show have one id, block size and key.
+    pub fn id(&self) -> Option<&[u8]> {
+        let length = usize::try_from(raw::number(&self.state, raw::STATE_ID_LENGTH)).unwrap_or(raw::ID_ROOM);
+        let id = &self.state[raw::STATE_ID..raw::STATE_ID + length.min(raw::ID_ROOM)];
+        self.is_accepted().then_some(id)
+    }
+
+    /// How many bytes each block of the show but the last has, once the head is accepted.
+    pub fn block_size(&self) -> Option<u64> {
+        self.is_accepted().then(|| raw::number(&self.state, raw::STATE_BLOCK_SIZE))
+    }
+
+    fn is_accepted(&self) -> bool {
+        raw::number(&self.state, raw::STATE_ACCEPTED) > 0
+    }
+
     /// How many bytes of the stream were taken, in all feeds.
     pub fn taken(&self) -> u64 {
         self.taken
@@ -164,7 +187,7 @@ impl Reader {
         match refusal {
             Refusal::BadHead { .. } | Refusal::BadFrame { .. } => true,
             Refusal::BadEnds | Refusal::OtherLength | Refusal::OtherDigest => true,
-            Refusal::Untrusted => !self.accepted_head().is_empty(),
+            Refusal::Untrusted => self.is_accepted(),
             _ => false,
         }
     }

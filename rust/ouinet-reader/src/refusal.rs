@@ -19,7 +19,7 @@ pub enum Refusal {
         /// Where its text goes wrong, or the length taken.
         at: u64,
     },
-    /// 4: the head breaks one of the format's rules.
+    /// 4: the head breaks one of the format's rules, those of a part answer's head among them.
     HeadRule,
     /// 5: the version is there and is not 4.
     BadVersion,
@@ -28,9 +28,10 @@ pub enum Refusal {
         /// Where that section's text goes wrong, or the length taken.
         at: u64,
     },
-    /// 7: a chunk's size is against the rule for blocks.
+    /// 7: a chunk's size is against the rule for blocks, or a part answer ends before its last byte or goes on after it.
     BadSize,
-    /// 8: a block's signature is absent where it is due, or present where it is not.
+    /// 8: a block's signature, `ouisig`, or the hash that a part begins with, `ouihash`, is absent where it is due, or present where it is
+    /// not.
     BadOuisig,
     /// 9: the body would pass 4,294,967,296 bytes.
     TooLong,
@@ -115,8 +116,12 @@ impl Refusal {
             Refusal::BadFrame { .. } => {
                 "the body's framing is broken: a chunk line, the end of a chunk or the trailer is wrong"
             }
-            Refusal::BadSize => "a chunk has a size that the rule for blocks does not allow",
-            Refusal::BadOuisig => "a block's signature is missing, or one stands where none is due",
+            Refusal::BadSize => {
+                "a chunk has a size that the rule for blocks does not allow, or a part answer has not the bytes that its head gives"
+            }
+            Refusal::BadOuisig => {
+                "a block's signature, or the hash that a part answer begins with, is missing, or one stands where none is due"
+            }
             Refusal::TooLong => "the body is longer than 4,294,967,296 bytes",
             Refusal::BadSignature => "a signature is wrong: the stream was changed on its way, or not signed with this key",
             Refusal::Unfinished => "the stream stops before its end",

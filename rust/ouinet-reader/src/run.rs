@@ -13,9 +13,10 @@ const MOST_PIECE: usize = 65_536;
 /// How a stream ended.
 #[derive(Debug, Clone, Copy, PartialEq, Eq)]
 pub enum Ending {
-    /// The framing ended well, and nothing says whether the body is complete; see the crate's words on what that means.
+    /// The framing ended well, and nothing says whether the body is complete; see the crate's words on what that means. A part answer
+    /// ends so, too.
     Closed {
-        /// The length of the body.
+        /// How many bytes were handed out: the length of the body, or of the part.
         total: u64,
     },
     /// The body is complete.

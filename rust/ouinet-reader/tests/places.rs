@@ -95,6 +95,9 @@ fn chunk_lines() {
         frame(part, b"5\r\r\n", SectionKind::ChunkLine, 2);
         frame(part, b"000000005\r\n", SectionKind::ChunkLine, 8);
         frame(part, b"5;OUISIG=\r\n", SectionKind::ChunkLine, 2);
+        frame(part, b"5;ouiSig=\r\n", SectionKind::ChunkLine, 5);
+        frame(part, b"5;ouihash=\r\n", SectionKind::ChunkLine, 10);
+        frame(part, b"5;ouihasg=\r\n", SectionKind::ChunkLine, 8);
         frame(part, &[&b"x".repeat(126)[..], b"\r\n"].concat(), SectionKind::ChunkLine, 0);
         frame(part, &b"1".repeat(128), SectionKind::ChunkLine, 128);
         let spare = [b"0;ouisig=", &b"A".repeat(85)[..], b"B==\r\n"].concat();

@@ -80,15 +80,19 @@ fn is_list(list: &[u8], head: &Head) -> bool {
 
 /// What a good trailer's end comes to.
 pub enum End {
-    /// None of the three was given.
+    /// None of the three was given, or it is a part answer.
     Closed,
     /// The show is complete if the answer is yes.
     Asked(Question),
 }
 
 /// Judges the end of a stream with this head and this trailer, whose text is good. The total is that of the bytes released, and
-/// `hash` gives their SHA-256, which is only asked for where it matters.
+/// `hash` gives their SHA-256, which is only asked for where it matters. Of a part answer nothing of this is looked at, even where it has all
+/// bytes of its show: "The end checks of #101 are skipped" (request #104).
 pub fn judge(head: &Head, trailer: &[u8], total: u64, hash: impl FnOnce() -> [u8; 32]) -> Result<End, Refusal> {
+    if head.part.is_some() {
+        return Ok(End::Closed);
+    }
     let mut given = head.given.clone();
     trailer::fields(trailer).for_each(|(name, value)| given.add(name, value));
     if given.is_nothing() {
@@ -112,7 +116,7 @@ pub fn judge(head: &Head, trailer: &[u8], total: u64, hash: impl FnOnce() -> [u8
 /// As for the head's signature, with Sig1's own `created`. The names that both lists have take the head's values, and none from the
 /// trailer.
 fn signing_string(head: &Head, three: &Three) -> Vec<u8> {
-    let mut out = head::signing_string(head.status, three.sig.created, &head.signed_lines);
+    let mut out = head::signing_string(head.signed_status, three.sig.created, &head.signed_lines);
     for (name, value) in [(DIGEST, three.digest), (SIZE, three.digits)] {
         out.extend(head::signed_line(name, value));
     }

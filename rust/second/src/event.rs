@@ -11,7 +11,8 @@ pub struct Question {
     pub record: usize,
 }
 
-/// *Closed* says that the framing ended well, *complete* that the whole show has come (request #101).
+/// *Closed* says that the framing ended well, *complete* that the whole show has come (request #101). A part answer is only ever closed
+/// (request #104).
 #[derive(Debug, Clone, PartialEq, Eq)]
 pub enum Event {
     Question(Question),

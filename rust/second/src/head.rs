@@ -1,13 +1,15 @@
 //! The head: from the first byte of the stream to the first CR LF CR LF. It is judged once, whole.
 //! The rules are those of paper 01, "The head", points of whose list are cited by their first words, and for a name that
-//! comes in several lines those of request #102, and for the URI that the caller asked for those of request #105. The two
-//! limits are those of request #108.
+//! comes in several lines those of request #102, for the URI that the caller asked for those of request #105, and for an answer
+//! that has a part of a show those of request #104. The two limits are those of request #108.
 
 use crate::base64;
 use crate::ends::Given;
 use crate::event::Refusal;
+use crate::part::{self, Part};
 use crate::place::longest_beginning;
 use crate::ring::{self, Record};
+use crate::scan::Scan;
 use crate::text;
 use crate::trailer;
 use std::ops::Range;
@@ -22,13 +24,20 @@ pub const MOST_FIELDS: usize = 128;
 /// The most names in the signed list, the two pseudo names included.
 pub const MOST_LISTED: usize = 32;
 const MOST_BLOCK: u64 = 65_536;
+/// The statuses that a whole show may have.
+const STATUSES: [u16; 4] = [200, 301, 302, 307];
 /// What the signed list begins with, in lower case.
 const PSEUDO: [&[u8]; 2] = [b"(response-status)", b"(created)"];
 
 /// What the rest of the reading needs from a good head.
 #[derive(Debug, Clone, PartialEq, Eq)]
 pub struct Head {
+    /// The status of this answer.
     pub status: u16,
+    /// What stands for `(response-status)`: that of the whole show.
+    pub signed_status: u16,
+    /// Which bytes of the show come, if this is a part answer.
+    pub part: Option<Part>,
     pub id: Vec<u8>,
     pub block_size: u32,
     /// The key that signed the head.
@@ -89,12 +98,14 @@ pub fn judge(bytes: &[u8], ring: &[Record], asked: &[u8]) -> Result<Head, Refusa
     let signed_lines: Vec<u8> = rules.listed.iter().flat_map(|field| field.line(&text)).collect();
     Ok(Head {
         status: text.status(),
+        signed_status: rules.signed_status,
+        part: rules.part,
         id: rules.injection.id.to_vec(),
         block_size: rules.bsigs.size,
         key: rules.sig0.key,
         signature: rules.sig0.signature,
         record,
-        signing_string: signing_string(text.status(), rules.sig0.created, &signed_lines),
+        signing_string: signing_string(rules.signed_status, rules.sig0.created, &signed_lines),
         signed_lines,
         signed: rules.listed.into_iter().map(Listed::handed_out).collect(),
         given: text.given(),
@@ -168,9 +179,14 @@ impl<'a> HeadText<'a> {
         self.fields.iter().filter(move |field| self.name(field).eq_ignore_ascii_case(name))
     }
 
-    /// The trimmed value of the first line of that name. The names that the rules below ask for have no other line.
+    /// The trimmed values of the lines of that name, in their order.
+    fn values(&self, name: &[u8]) -> Vec<&'a [u8]> {
+        self.lines_of(name).map(|field| &self.bytes[field.value.clone()]).collect()
+    }
+
+    /// The trimmed value of the first line of that name. The names that the rules below ask for in this way have no other line.
     fn value(&self, name: &[u8]) -> Option<&'a [u8]> {
-        self.lines_of(name).next().map(|field| &self.bytes[field.value.clone()])
+        self.values(name).first().copied()
     }
 
     /// The three digits of the status line.
@@ -200,7 +216,7 @@ pub fn uri(bytes: &[u8]) -> Option<&[u8]> {
 fn place(bytes: &[u8]) -> usize {
     let status_line = text::find(bytes, b"\r\n").map_or(bytes.len(), |end| end + 2);
     let (front, fields) = bytes.split_at(status_line);
-    let in_front = longest_beginning(front, b"HTTP/1.1 000 \r\n\r\n", is_good);
+    let in_front = longest_beginning(front, &[b"HTTP/1.1 000 \r\n\r\n"], is_good);
     if in_front < front.len() {
         in_front
     } else {
@@ -219,6 +235,8 @@ fn is_status_line(line: &[u8]) -> bool {
 
 /// What the head rules of refusal 4 find, after the version ("Status 200" and all points below it).
 struct Rules<'a> {
+    signed_status: u16,
+    part: Option<Part>,
     uri: &'a [u8],
     injection: Injection<'a>,
     bsigs: BSigs,
@@ -229,18 +247,36 @@ struct Rules<'a> {
 
 impl<'a> Rules<'a> {
     fn check(text: &HeadText<'a>) -> Option<Self> {
-        let status_is_right = [200, 301, 302, 307].contains(&text.status());
+        let signed_status = signed_status(text)?;
         let chunked = text.value(b"Transfer-Encoding")?.eq_ignore_ascii_case(b"chunked");
         let has_length = text.value(b"Content-Length").is_some();
         let uri = text.value(b"X-Ouinet-URI")?;
-        if !status_is_right || !chunked || has_length || uri.is_empty() {
+        if !chunked || has_length || uri.is_empty() {
             return None;
         }
         let injection = Injection::parse(text.value(b"X-Ouinet-Injection")?)?;
         let bsigs = BSigs::parse(text.value(b"X-Ouinet-BSigs")?)?;
+        let part = if text.status() == part::STATUS { Some(part_of(text, bsigs.size)?) } else { None };
         let sig0 = Sig::parse(text.value(b"X-Ouinet-Sig0")?)?;
         let listed = listed_fields(text, sig0.headers)?;
-        Some(Rules { uri, injection, bsigs, sig0, listed })
+        Some(Rules { signed_status, part, uri, injection, bsigs, sig0, listed })
+    }
+}
+
+/// The status that was signed. A part answer says it in a field of its own, in other answers that is a field like any other.
+fn signed_status(text: &HeadText) -> Option<u16> {
+    if text.status() != part::STATUS {
+        return Some(text.status()).filter(|status| STATUSES.contains(status));
+    }
+    let said = text.value(b"X-Ouinet-HTTP-Status")?;
+    STATUSES.into_iter().find(|status| status.to_string().as_bytes() == said)
+}
+
+/// What the one `Content-Range` of a part answer says.
+fn part_of(text: &HeadText, block_size: u32) -> Option<Part> {
+    match text.values(b"Content-Range")[..] {
+        [value] => Part::parse(value, block_size),
+        _ => None,
     }
 }
 
@@ -259,7 +295,8 @@ impl<'a> Injection<'a> {
             return None;
         }
         rest.expect(b",ts=")?;
-        let ts = text::decimal(rest.0, 12)?;
+        let ts = rest.decimal(12)?;
+        rest.expect_end()?;
         Some(Injection { id, ts })
     }
 }
@@ -276,7 +313,8 @@ impl BSigs {
         let key = key_and_algorithm(&mut rest)?;
         rest.comma()?;
         rest.expect(b"size=")?;
-        let size = text::decimal(rest.0, 5)?;
+        let size = rest.decimal(5)?;
+        rest.expect_end()?;
         if !(1..=MOST_BLOCK).contains(&size) {
             return None;
         }
@@ -307,9 +345,7 @@ impl<'a> Sig<'a> {
         rest.comma()?;
         rest.expect(b"signature=")?;
         let signature = base64::decode_signature(rest.quoted()?)?;
-        if !rest.0.is_empty() {
-            return None;
-        }
+        rest.expect_end()?;
         Some(Sig { key, created, headers, signature })
     }
 }
@@ -383,37 +419,4 @@ pub(crate) fn signing_string(status: u16, created: &[u8], lines: &[u8]) -> Vec<u
 /// A line of the signing string that is not its first.
 pub(crate) fn signed_line(name: &[u8], value: &[u8]) -> Vec<u8> {
     [b"\n", name, b": ", value].concat()
-}
-
-/// What is left of a value that is being read from its front.
-struct Scan<'a>(&'a [u8]);
-
-impl<'a> Scan<'a> {
-    fn expect(&mut self, front: &[u8]) -> Option<()> {
-        self.0 = self.0.strip_prefix(front)?;
-        Some(())
-    }
-
-    fn take_while(&mut self, good: impl Fn(u8) -> bool) -> &'a [u8] {
-        let length = self.0.iter().take_while(|&&b| good(b)).count();
-        let (front, rest) = self.0.split_at(length);
-        self.0 = rest;
-        front
-    }
-
-    /// A comma between parameters, and the spaces and tabs that may follow it (end of
-    /// "X-Ouinet-Sig0").
-    fn comma(&mut self) -> Option<()> {
-        self.expect(b",")?;
-        self.0 = &self.0[text::leading_blanks(self.0)..];
-        Some(())
-    }
-
-    /// What stands between a quote here and the next one.
-    fn quoted(&mut self) -> Option<&'a [u8]> {
-        self.expect(b"\"")?;
-        let inner = self.take_while(|b| b != b'"');
-        self.expect(b"\"")?;
-        Some(inner)
-    }
 }

@@ -1,5 +1,5 @@
-//! A second reader for version 4 signature streams, written from paper 01 and requests #101, #102, #105, #106
-//! and #108 alone.
+//! A second reader for version 4 signature streams, written from paper 01 and requests #101, #102, #104, #105,
+//! #106 and #108 alone.
 //!
 //! It exists to be compared with the verified reader, so it shares nothing with it. The modules:
 //!
@@ -7,6 +7,8 @@
 //! * `text`: characters, trimming, field lines and numbers;
 //! * `ring`: the key ring;
 //! * `other_show`: what is said of a head with another URI than the one asked for;
+//! * `scan`: a value that is read from its front;
+//! * `part`: which bytes of a show a part answer has;
 //! * `head`, `chunk`, `trailer`: one judge for each kind of text in a stream;
 //! * `ends`: the judge of what the head and the trailer say about the whole show;
 //! * `place`: where a text went wrong, found by trying completions;
@@ -28,10 +30,12 @@ pub mod files;
 pub mod head;
 pub mod message;
 pub mod other_show;
+pub mod part;
 pub mod place;
 pub mod plain;
 pub mod reader;
 pub mod ring;
+mod scan;
 mod sha2;
 pub mod sha256;
 pub mod sha512;

@@ -3,8 +3,8 @@
 
 use crate::sha512::sha512;
 
-/// The hash of a block: over the block alone for the first one, over the 64 bytes of the hash
-/// before and the block for each later one.
+/// The hash of a block: over the block alone for the first one of a show, over the 64 bytes of the
+/// hash before and the block for each later one.
 pub fn chain(before: Option<&[u8; 64]>, block: &[u8]) -> [u8; 64] {
     match before {
         None => sha512([block]),

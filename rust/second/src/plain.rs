@@ -3,7 +3,7 @@
 //! was told, to the list of events with their places. It holds the whole stream in memory and knows
 //! nothing of pieces; `calls` is built on it.
 
-use crate::chunk::{self, Before};
+use crate::chunk::{self, Before, Extension};
 use crate::ends::{self, End};
 use crate::event::{Event, Question, Refusal};
 use crate::head::{self, Head};
@@ -173,29 +173,29 @@ impl<'a> Walk<'a> {
     }
 
     /// Chunk lines, data and data ends by turns, up to and with the 0 line and the release of the
-    /// last block. Gives the body's total.
+    /// last block. Gives the total of this answer's body.
     fn body(&mut self, head: &Head) -> Result<u64, Stop> {
         let mut total: u64 = 0;
-        let mut number: u64 = 0;
+        // A part answer's first block comes later in the show, and what its first line tells is the hash before it
+        let mut offset = head.part.map_or(0, |part| part.first);
         let mut hash: Option<[u8; 64]> = None;
         let mut block: Option<Range<usize>> = None;
         loop {
             let line = self.section_to(Kind::Line, chunk::END, chunk::LIMIT, Refusal::frame)?;
-            let before =
-                Before { block_size: head.block_size, block: block.as_ref().map(|range| range.len() as u32), total };
+            let before = Before {
+                block_size: head.block_size,
+                block: block.as_ref().map(|range| range.len() as u32),
+                total,
+                part: head.part,
+            };
             let line = chunk::judge(line, &before).map_err(Stop::Refused)?;
-            if let (Some(range), Some(signature)) = (block.take(), line.signature) {
-                let new_hash = message::chain(hash.as_ref(), &self.bytes[range.clone()]);
-                let offset = number * u64::from(head.block_size);
-                self.ask(Question {
-                    message: message::block_message(&head.id, offset, &new_hash),
-                    signature,
-                    record: head.record,
-                })?;
-                let length = range.len() as u32;
-                self.list_block(Event::Block { offset, length }, Some(range));
-                hash = Some(new_hash);
-                number += 1;
+            match (line.extension, block.take()) {
+                (Extension::Hash(told), _) => hash = Some(told),
+                (Extension::Signature(signature), Some(range)) => {
+                    hash = Some(self.block(head, offset, hash.as_ref(), range, signature)?);
+                    offset += u64::from(head.block_size);
+                }
+                _ => (),
             }
             if line.size == 0 {
                 return Ok(total);
@@ -206,5 +206,22 @@ impl<'a> Walk<'a> {
             total += u64::from(line.size);
             chunk::judge_data_end(self.section(Kind::DataEnd, 2)?).map_err(Stop::Refused)?;
         }
+    }
+
+    /// Asks about a block and lists its release. Gives its hash.
+    fn block(
+        &mut self,
+        head: &Head,
+        offset: u64,
+        hash_before: Option<&[u8; 64]>,
+        range: Range<usize>,
+        signature: [u8; 64],
+    ) -> Result<[u8; 64], Stop> {
+        let hash = message::chain(hash_before, &self.bytes[range.clone()]);
+        let message = message::block_message(&head.id, offset, &hash);
+        self.ask(Question { message, signature, record: head.record })?;
+        let length = range.len() as u32;
+        self.list_block(Event::Block { offset, length }, Some(range));
+        Ok(hash)
     }
 }

@@ -1,7 +1,7 @@
 //! The same reading as `plain`, done piece by piece in bounded memory (paper 01, "How a sitting
 //! goes"). It keeps at most one head, one block, one chunk line and one trailer.
 
-use crate::chunk::{self, Before, ChunkLine};
+use crate::chunk::{self, Before, ChunkLine, Extension};
 use crate::ends::{self, End};
 use crate::event::{Event, Question, Refusal};
 use crate::head::{self, Head};
@@ -39,11 +39,11 @@ enum Stage {
 /// The body as far as it has come.
 struct Body {
     head: Head,
-    /// The number of the block that is gathered now or next.
+    /// The number of the block that is gathered now or next, from this answer's first.
     number: u64,
     /// The bytes of all blocks gathered.
     total: u64,
-    /// The hash of the last released block.
+    /// The hash of the last released block, or of the one before a part answer.
     hash: Option<[u8; 64]>,
     /// The hash of all released blocks together, in the making (request #101).
     whole: Sha256,
@@ -69,8 +69,10 @@ impl Body {
         }
     }
 
+    /// The place of that block in the show.
     fn offset(&self) -> u64 {
-        self.number * u64::from(self.head.block_size)
+        let first = self.head.part.map_or(0, |part| part.first);
+        first + self.number * u64::from(self.head.block_size)
     }
 
     fn before(&self) -> Before {
@@ -78,6 +80,7 @@ impl Body {
             block_size: self.head.block_size,
             block: self.waiting.then_some(self.block.len() as u32),
             total: self.total,
+            part: self.head.part,
         }
     }
 }
@@ -258,7 +261,10 @@ impl Reader {
     /// A good line: a question if it carries a signature, else the next section.
     fn line(&mut self, line: ChunkLine) -> Option<Event> {
         let body = self.body.as_mut()?;
-        let Some(signature) = line.signature else {
+        if let Extension::Hash(told) = line.extension {
+            body.hash = Some(told);
+        }
+        let Extension::Signature(signature) = line.extension else {
             self.stage = after_line(line.size);
             return None;
         };

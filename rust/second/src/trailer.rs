@@ -39,7 +39,7 @@ pub fn is_good(bytes: &[u8]) -> bool {
 pub fn place(bytes: &[u8]) -> usize {
     let wrong = text::lines(bytes).into_iter().find(|line| text::field_line(&bytes[line.clone()]).is_none());
     let start = wrong.map_or(0, |line| line.start);
-    start + longest_beginning(&bytes[start..], b"a:\r\n\r\n", is_good)
+    start + longest_beginning(&bytes[start..], &[b"a:\r\n\r\n"], is_good)
 }
 
 /// Judges a whole trailer.

@@ -3,11 +3,11 @@
 
 mod common;
 
+use common::ways::{self, by_reader};
 use common::{example, example_lines, head_with, ring, sig, signature, EXAMPLE_URI, KEY, NEEDED};
 use second::calls::{Calls, Contents, Holds, Outcome, Word};
 use second::event::{Event, Question, Refusal};
 use second::plain;
-use second::reader::Reader;
 use second::ring::Record;
 use second::sha256::sha256;
 
@@ -19,7 +19,6 @@ const OTHER_KEY: &str = "AQEBAQEBAQEBAQEBAQEBAQEBAQEBAQEBAQEBAQEBAQE=";
 const OTHER_BYTES: [u8; 32] = [1; 32];
 const HELLO: &[u8] = b"Hello world!";
 const HELLO_DIGEST: &str = "SHA-256=wFNeS+K3n/2TKRMFQ2v4iTFOSj+uwF7P/Lt98xrZ5Ro=";
-const PIECES: [usize; 5] = [1, 2, 7, 100, usize::MAX];
 
 fn base64(bytes: &[u8]) -> String {
     let letters = b"ABCDEFGHIJKLMNOPQRSTUVWXYZabcdefghijklmnopqrstuvwxyz0123456789+/";
@@ -95,15 +94,7 @@ impl Show {
 
     /// The events with these answers, by all three ways of reading.
     fn events(&self, answers: &[bool]) -> Vec<Event> {
-        let stream = self.stream();
-        let reading = plain::read(&stream, &self.ring, b"u", answers, true);
-        let events: Vec<Event> = reading.events.iter().map(|placed| placed.event.clone()).collect();
-        for piece in PIECES {
-            assert_eq!(by_reader(&stream, &self.ring, answers, piece), events, "pieces of {piece}");
-        }
-        let words: Vec<Word> = events.iter().cloned().map(Word::from).collect();
-        assert_eq!(by_calls(&stream, &self.ring, answers), words);
-        events
+        ways::events(&self.stream(), &self.ring, b"u", answers)
     }
 
     /// What comes after the last block, all answers yes.
@@ -130,46 +121,6 @@ impl Show {
 
     fn message(&self) -> String {
         String::from_utf8(self.is_complete().message).expect("text")
-    }
-}
-
-fn by_reader(stream: &[u8], ring: &[Record], answers: &[bool], piece: usize) -> Vec<Event> {
-    let mut reader = Reader::new(ring.to_vec(), b"u".to_vec());
-    let (mut events, mut answers, mut place) = (Vec::new(), answers.iter(), 0);
-    while place < stream.len() {
-        let rest = &stream[place..];
-        let (taken, event) = reader.feed(&rest[..piece.min(rest.len())]).expect("in time");
-        place += taken;
-        let Some(event) = event else { continue };
-        let is_question = matches!(event, Event::Question(_));
-        events.push(event);
-        if is_question {
-            let Some(&yes) = answers.next() else { return events };
-            events.push(reader.answer(yes).expect("a question is open"));
-        }
-        if events.last().is_some_and(Event::is_final) {
-            return events;
-        }
-    }
-    events.push(reader.end().expect("in time"));
-    events
-}
-
-fn by_calls(stream: &[u8], ring: &[Record], answers: &[bool]) -> Vec<Word> {
-    let mut calls = Calls::new();
-    let (mut words, mut answers, mut place) = (Vec::new(), answers.iter(), 0);
-    loop {
-        let Outcome { word, taken } = calls.feed(Holds::ENOUGH, ring, b"u", &stream[place..]);
-        place += taken;
-        let is_question = matches!(word, Word::Question(_));
-        words.push(if word == Word::More { calls.end(Holds::ENOUGH).word } else { word });
-        if is_question {
-            let Some(&yes) = answers.next() else { return words };
-            words.push(calls.answer(Holds::ENOUGH, yes).word);
-        }
-        if !matches!(words.last(), Some(Word::HeadAccepted { .. } | Word::Block { .. })) {
-            return words;
-        }
     }
 }
 
@@ -598,7 +549,7 @@ fn point_14_blocks_of_any_size() {
             let show = Show { block_size, body, ..Show::ending(&lines) };
             let last = plain::read(&show.stream(), &show.ring, b"u", &[true; 402], true).events.pop();
             assert_eq!(last.map(|placed| placed.event), Some(Event::Complete { total: length as u64 }));
-            let told = by_reader(&show.stream(), &show.ring, &[true; 402], 61);
+            let told = by_reader(&show.stream(), &show.ring, b"u", &[true; 402], 61);
             assert_eq!(told.last(), Some(&Event::Complete { total: length as u64 }));
         }
     }

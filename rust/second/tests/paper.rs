@@ -94,7 +94,7 @@ fn the_example_cut_short_or_refused() {
 }
 
 fn first_line() -> Before {
-    Before { block_size: 65_536, block: None, total: 0 }
+    Before { block_size: 65_536, block: None, total: 0, part: None }
 }
 
 fn size_of(line: &str) -> Result<u32, Refusal> {
@@ -123,7 +123,7 @@ fn p5_an_empty_body() {
 
 #[test]
 fn p6_the_length_of_a_signature() {
-    let before = Before { block_size: 5, block: Some(5), total: 5 };
+    let before = Before { block_size: 5, block: Some(5), total: 5, part: None };
     let judge = |text: &str| chunk::judge(format!("5;ouisig={text}\r\n").as_bytes(), &before);
     assert!(judge(&signature()).is_ok());
     // The padding comes a character too early, and then the line's end does

@@ -131,6 +131,32 @@ fn point_4_digits_and_base64() {
     line_at(b"5 ;ouisig=\r\n", 1);
 }
 
+/// Request #104 gives a line one more form, so that some texts go wrong later than before. (`parts.rs` has more of them.)
+#[test]
+fn a_hash_is_good_text_too() {
+    for (line, place) in [
+        ("5;OUIHASH=\r\n", 2),
+        ("5;ouiX\r\n", 5),
+        ("5;oui\r\n", 5),
+        ("5;ouih\r\n", 6),
+        ("5;ouihx\r\n", 6),
+        ("5;ouis\r\n", 6),
+        ("5;ouisx\r\n", 6),
+        ("5;ouihash=\r\n", 10),
+        ("5;ouisash=\r\n", 6),
+        ("5;ouihig=\r\n", 6),
+    ] {
+        line_at(line.as_bytes(), place);
+    }
+    // Behind either one nothing may come but the line's end
+    for name in [";ouisig=", ";ouihash="] {
+        let line = format!("5{name}{}", signature());
+        line_at(format!("{line};ouihash=\r\n").as_bytes(), line.len());
+        line_at(format!("{line};ouisig=\r\n").as_bytes(), line.len());
+        line_at(format!("{line}\rx\r\n").as_bytes(), line.len() + 1);
+    }
+}
+
 #[test]
 fn point_5_good_by_text_only() {
     // A signature that is not due, and then one that is too long for a base64 text
@@ -308,12 +334,13 @@ fn status_lines_with_any_byte_anywhere() {
     }
 }
 
-/// A few thousand ways to go on with a line: up to two digits, a tail of `;ouisig=`, some letters, a tail of the end.
+/// Some thousand ways to go on with a line: up to two digits, a tail of `;ouisig=` or `;ouihash=`, some letters, a tail of the end.
 fn line_tails() -> Vec<Vec<u8>> {
-    let (name, end) = (b";ouisig=", b"==\r\n");
+    let (names, end) = ([&b";ouisig="[..], b";ouihash="], b"==\r\n");
+    let names: Vec<&[u8]> = names.iter().flat_map(|name| (0..=name.len()).map(|start| &name[start..])).collect();
     let mut tails = Vec::new();
     for digits in [&b""[..], b"3", b"0f"] {
-        for name in (0..=name.len()).map(|start| &name[start..]) {
+        for name in &names {
             for letters in 0..=86 {
                 let front = [digits, name, &b"w".repeat(letters)].concat();
                 tails.extend((0..=end.len()).map(|start| [&front[..], &end[start..]].concat()));
@@ -326,8 +353,8 @@ fn line_tails() -> Vec<Vec<u8>> {
 
 /// A good line with one byte replaced, inserted or deleted, cut at its first end.
 fn changed_line(draw: &mut Draw) -> Vec<u8> {
-    let samples = ["5", "00000005", "a;ouisig=", "0;ouisig=", "FFFFFFFF;ouisig="];
-    let letters = ["\r", "\n", "0", "A", "B", "g", "=", ";", " ", "-", "Q", "\0"];
+    let samples = ["5", "00000005", "a;ouisig=", "0;ouisig=", "FFFFFFFF;ouisig=", "a;ouihash=", "FFFFFFFF;ouihash="];
+    let letters = ["\r", "\n", "0", "A", "B", "g", "=", ";", " ", "-", "Q", "\0", "h", "s"];
     let mut line = samples[draw.below(samples.len())].as_bytes().to_vec();
     if line.ends_with(b"=") {
         line.extend(format!("{}Q==", "xyz+/".repeat(17)).bytes());
@@ -349,7 +376,7 @@ fn changed_line(draw: &mut Draw) -> Vec<u8> {
 #[test]
 fn lines_against_many_completions() {
     let tails = line_tails();
-    let before = Before { block_size: 5, block: None, total: 0 };
+    let before = Before { block_size: 5, block: None, total: 0, part: None };
     let (mut draw, mut wrong) = (Draw(3), 0);
     for _ in 0..3000 {
         let line = changed_line(&mut draw);

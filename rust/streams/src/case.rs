@@ -182,10 +182,15 @@ impl Case {
 
     /// A stream whose head is signed over another text than it should be: the answer is no.
     pub fn wrongly_signed(label: impl Into<String>, built: &Built, rng: &mut Rng) -> Self {
+        Case::wrongly_signed_at(0, label, built, rng)
+    }
+
+    /// A stream of which so many questions are signed as they should be, and the next one is not.
+    pub fn wrongly_signed_at(count: usize, label: impl Into<String>, built: &Built, rng: &mut Rng) -> Self {
         let known = built.known(built.bytes(), built.lines());
         let answers = answers::verified(&known.stream, &known.ring, &known.uri);
-        assert_eq!(answers, [false], "the wrong text is the right one");
-        Case::known(label, known, Answering::NoAfter(0), rng)
+        assert_eq!(answers, [vec![true; count], vec![false]].concat(), "the wrong text is the right one");
+        Case::known(label, known, Answering::NoAfter(count), rng)
     }
 
     /// A case of which only this is known: with verified answers, what is released is a beginning

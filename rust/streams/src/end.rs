@@ -144,7 +144,7 @@ impl Written {
     }
 }
 
-fn is_named(field: &Field, name: &str) -> bool {
+pub(crate) fn is_named(field: &Field, name: &str) -> bool {
     field.name.eq_ignore_ascii_case(name.as_bytes())
 }
 
@@ -228,7 +228,7 @@ fn is_digest(text: &[u8]) -> bool {
 }
 
 /// Whether this is a number of at most so many digits, without a leading zero unless it is `0`.
-fn is_number(text: &[u8], most: usize) -> bool {
+pub(crate) fn is_number(text: &[u8], most: usize) -> bool {
     let is_short = (1..=most).contains(&text.len());
     is_short && text.iter().all(u8::is_ascii_digit) && (text == b"0" || text[0] != b'0')
 }

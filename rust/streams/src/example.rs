@@ -1,8 +1,10 @@
 //! The example of document 000 as a fixed stream: block size 5, `Hello world!`, with a fixed test
-//! key. Names stand in the list as the document prints them.
+//! key. Names stand in the list as the document prints them. Also the document's answer that has the show's second half.
 
 use crate::base64;
-use crate::head::Field;
+use crate::end::End;
+use crate::head::{replaced, Field};
+use crate::part_answer::PartAnswer;
 use crate::plan::{blocks_of, Plan, RingRecord, SizeStyle};
 use crate::sodium::Signer;
 
@@ -22,6 +24,10 @@ pub const LINES: [&str; 10] = [
     "question 303",
     "complete 12",
 ];
+
+/// The lines that request #104 gives for the part of it.
+pub const PART_LINES: [&str; 7] =
+    ["question 219", "head 206", "question 83", "block 5 5", "question 84", "block 10 2", "closed 7"];
 
 const TS: &str = "1584748800";
 const SIGNED: [&str; 5] = ["x-Ouinet-version", "x-Ouinet-uri", "x-Ouinet-injection", "date", "content-type"];
@@ -80,6 +86,22 @@ fn trailer(signer: &Signer) -> Vec<u8> {
     .into_bytes()
 }
 
+/// Document 000's answer to a request for the second half: the whole show's end stands in its head, and its fields in the order that is printed.
+pub fn part() -> PartAnswer {
+    let mut show = plan();
+    show.reason = b"Partial Content".to_vec();
+    show.trailer = b"\r\n".to_vec();
+    show.fields.retain(|field| field.name != b"Trailer");
+    let mut end = End::of(&show);
+    end.in_head = [true; 3];
+    end.gaps[2] = b" ".to_vec();
+    end.list = replaced(&end.list, b"x-ouinet-data-size", b"x-Ouinet-data-size");
+    let coding = show.fields.pop();
+    let written = end.signed(&show);
+    show.fields.extend(written.head.into_iter().chain(coding));
+    PartAnswer::of(&show, 1..3)
+}
+
 /// A stream of the same kind that is as short as can be: one block of two bytes, no trailer.
 pub fn short_plan() -> Plan {
     let mut plan = plan();
@@ -101,5 +123,42 @@ mod tests {
     #[test]
     fn the_generator_itself_expects_these_lines() {
         assert_eq!(plan().build().lines(), LINES);
+        assert_eq!(part().build().lines(), PART_LINES);
+    }
+
+    /// What document 000 prints of its part answer, with our own key and signatures.
+    #[test]
+    fn the_part_is_that_of_the_document() {
+        let built = part().build();
+        let names: Vec<&[u8]> = built.head.fields.iter().map(|field| &field.name[..]).collect();
+        let due = [
+            "X-Ouinet-Version",
+            "X-Ouinet-URI",
+            "X-Ouinet-Injection",
+            "Date",
+            "Content-Type",
+            "X-Ouinet-Sig0",
+            "X-Ouinet-BSigs",
+            "Digest",
+            "X-Ouinet-Data-Size",
+            "X-Ouinet-Sig1",
+            "Transfer-Encoding",
+            "Content-Range",
+            "X-Ouinet-HTTP-Status",
+        ];
+        assert_eq!(names, due.map(str::as_bytes));
+        assert_eq!(built.head.status_line, b"HTTP/1.1 206 Partial Content");
+        assert_eq!(built.head.fields[11].value, b"bytes 5-11/12");
+        let hash = "NhX4DJ0pPtdAJof5SyLVjlKbjMeRb4+sf933+9WvTPd309eVp6AKFr9+fz+5Vh7puq5IDan+ehh2nnGIawPzFQ==";
+        assert_eq!(built.parts[1].bytes, format!("5;ouihash={hash}\r\n").as_bytes());
+        // The show's own head, with its end in it, is signed alike
+        let sig1 = &built.head.fields[9].value;
+        assert!(sig1.ends_with(&trailer_signature()[..]), "{}", String::from_utf8_lossy(sig1));
+    }
+
+    /// The last characters of Sig1 in the example's trailer, which is written by hand.
+    fn trailer_signature() -> Vec<u8> {
+        let trailer = plan().trailer;
+        trailer[trailer.len() - 4 - 90..trailer.len() - 4].to_vec()
     }
 }

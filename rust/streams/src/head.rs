@@ -80,6 +80,11 @@ fn length_before_end(stream: &[u8]) -> usize {
     stream.windows(4).position(|four| four == b"\r\n\r\n").unwrap_or(stream.len())
 }
 
+/// How many bytes a stream's head has.
+pub fn length(stream: &[u8]) -> usize {
+    length_before_end(stream) + 4
+}
+
 /// What stands before the first colon of each line of a stream's head, the status line's the first.
 pub fn line_names(stream: &[u8]) -> impl Iterator<Item = &[u8]> {
     let head = &stream[..length_before_end(stream)];
@@ -88,5 +93,5 @@ pub fn line_names(stream: &[u8]) -> impl Iterator<Item = &[u8]> {
 
 /// Whether a stream's head has more bytes or fields than paper 01 allowed before request #108.
 pub fn is_longer(stream: &[u8]) -> bool {
-    length_before_end(stream) + 4 > before::SECTION || line_names(stream).skip(1).count() > before::FIELDS
+    length(stream) > before::SECTION || line_names(stream).skip(1).count() > before::FIELDS
 }

@@ -9,6 +9,7 @@
 //! * `head`: a head as an editable list of lines;
 //! * `plan`: what an honest stream is made from, and how it is built;
 //! * `end`: what is said about the end of a show, and what comes of it;
+//! * `part_answer`: a run of a show's blocks as an answer of its own, and what comes of it;
 //! * `random`: plans drawn at random;
 //! * `answers`, `cuts`: two further files of a case;
 //! * `case`: a case and what is expected of it;
@@ -19,6 +20,7 @@
 //! * `asked`: streams asked for by their own URI, or by another one;
 //! * `longer`: heads and trailers beyond paper 01's own limits;
 //! * `ends`: shows that say where they end, rightly or wrongly;
+//! * `parts`: part answers, right ones and wrong ones;
 //! * `damage`: bytes changed, deleted, inserted, cut off;
 //! * `wrong_text`: damage to the text of a section;
 //! * `inputs`: malformed files;
@@ -44,6 +46,8 @@ pub mod limits;
 pub mod long;
 pub mod longer;
 pub mod options;
+pub mod part_answer;
+pub mod parts;
 pub mod plan;
 pub mod random;
 pub mod repeated;

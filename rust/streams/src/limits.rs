@@ -8,6 +8,8 @@ pub const FIELDS: usize = 128;
 pub const LISTED: usize = 32;
 /// The most bytes of a chunk line.
 pub const LINE: usize = 128;
+/// The most bytes of a body.
+pub const BODY: u64 = 4_294_967_296;
 
 /// The first two as paper 01 had them. Cases stay there, so that a limit that was left behind somewhere shows.
 pub mod before {

@@ -6,6 +6,7 @@ use std::path::Path;
 use std::process::ExitCode;
 use streams::case::{Answering, Case, ANSWERS, ASKED, RING};
 use streams::options::{parse_number, Options};
+use streams::plan::Built;
 use streams::rng::Rng;
 use streams::sequence::{self, Group, Sequence};
 use streams::{example, long};
@@ -14,6 +15,8 @@ const USAGE: &str = "\
 usage:
   streams example DIR
       the example of document 000: stream, ring, answers, uri, expected
+  streams example-part DIR
+      the same for the document's answer that has the second half of it
   streams corpus --seed S --count N [--groups LIST] DIR
       N cases of the seed, a folder each, and an index with what is expected
   streams long BYTES [--block-size N]
@@ -36,10 +39,11 @@ fn run(words: &[String]) -> Result<(), String> {
     let (command, rest) = words.split_first().ok_or(USAGE)?;
     let mut options = Options::parse(rest, USAGE)?;
     match command.as_str() {
-        "example" => {
+        "example" | "example-part" => {
             let folder = options.plain("DIR")?;
             options.done()?;
-            write_example(Path::new(&folder))
+            let built = if command == "example" { example::plan().build() } else { example::part().build() };
+            write_example(command, &built, Path::new(&folder))
         }
         "corpus" => {
             let seed = options.number("--seed")?.ok_or("corpus needs --seed S")?;
@@ -81,10 +85,12 @@ fn write_case(case: &Case, folder: &Path) -> Result<(), String> {
     fs::write(&expected, case.expected_text()).map_err(|error| failed(&expected, error))
 }
 
-fn write_example(folder: &Path) -> Result<(), String> {
-    let mut case = Case::whole("the example", &example::plan().build(), Answering::AllYes, &mut Rng::new(0));
+/// All answers are yes, and no more of them than are asked for.
+fn write_example(name: &str, built: &Built, folder: &Path) -> Result<(), String> {
+    let mut case = Case::whole(name, built, Answering::AllYes, &mut Rng::new(0));
     case.cuts = None;
-    case.answers = b"yyyyy\n".to_vec();
+    let questions = built.lines().iter().filter(|line| line.starts_with("question")).count();
+    case.answers = [&b"y".repeat(questions)[..], b"\n"].concat();
     write_case(&case, folder)
 }
 

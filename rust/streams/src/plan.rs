@@ -92,6 +92,18 @@ pub struct Part {
     pub lines: Vec<String>,
 }
 
+/// What a body starts from: the beginning of a show, unless it is that of a part answer.
+#[derive(Default)]
+pub(crate) struct Start {
+    /// The offset that is signed for the first block, and the one that a reader takes it to have.
+    pub offset: u64,
+    pub said: u64,
+    /// The hash of the block before; nothing where there is none.
+    pub hash: Vec<u8>,
+    /// What the first line has behind its size.
+    pub extension: Vec<u8>,
+}
+
 /// A stream in parts.
 #[derive(Clone)]
 pub struct Built {
@@ -154,6 +166,12 @@ impl Built {
             }
         }
         self.lines()
+    }
+
+    /// Has a reader refuse the part of that number, and so write nothing more.
+    pub(crate) fn refuse(&mut self, part: usize, number: u8) {
+        self.parts[part..].iter_mut().for_each(|part| part.lines.clear());
+        self.parts[part].lines.push(format!("refused {number}"));
     }
 
     /// The numbers of the parts of a kind.
@@ -268,36 +286,34 @@ impl Plan {
             bytes: head.bytes(),
             lines: vec![format!("question {asked}"), format!("head {status}")],
         }];
-        let mut hash: Vec<u8> = Vec::new();
-        let mut pending: Option<(Vec<u8>, Vec<String>)> = None;
-        for (number, block) in self.blocks.iter().enumerate() {
-            parts.push(self.line(Kind::Line, block.len(), pending.take()));
-            parts.push(Part { kind: Kind::Data, bytes: block.clone(), lines: Vec::new() });
-            parts.push(Part { kind: Kind::DataEnd, bytes: b"\r\n".to_vec(), lines: Vec::new() });
-            hash = sodium::sha512(&[&hash[..], block].concat()).to_vec();
-            let offset = number * self.block_size;
-            let message = block_message(&self.id, offset as u64, &hash);
-            let lines = vec![format!("question {}", message.len()), format!("block {offset} {}", block.len())];
-            pending = Some((base64::encode(&self.signer.sign(&message)), lines));
-        }
-        parts.push(self.line(Kind::ZeroLine, 0, pending));
+        parts.extend(self.body_parts(Start::default()));
         let body = self.blocks.concat();
         let last = end::reckon(self, &head.fields, &body);
         parts.push(Part { kind: Kind::Trailer, bytes: self.trailer.clone(), lines: last.lines(body.len()) });
         Built { head, parts, body, ring: self.ring.clone(), uri: self.uri(), end_is_signed: last.is_signed() }
     }
 
-    /// A chunk line, with the signature of the block before if there is one.
-    fn line(&self, kind: Kind, size: usize, before: Option<(Vec<u8>, Vec<String>)>) -> Part {
-        let mut bytes = self.sizes.write(size);
-        let mut lines = Vec::new();
-        if let Some((signature, events)) = before {
-            bytes.extend(b";ouisig=");
-            bytes.extend(signature);
-            lines = events;
+    /// Lines, data and data ends of all blocks, and the 0 line. Each line after a block has its signature.
+    pub(crate) fn body_parts(&self, start: Start) -> Vec<Part> {
+        let Start { mut offset, mut said, mut hash, mut extension } = start;
+        let (mut parts, mut lines) = (Vec::new(), Vec::new());
+        for block in &self.blocks {
+            parts.push(self.line(Kind::Line, block.len(), &extension, std::mem::take(&mut lines)));
+            parts.push(Part { kind: Kind::Data, bytes: block.clone(), lines: Vec::new() });
+            parts.push(Part { kind: Kind::DataEnd, bytes: b"\r\n".to_vec(), lines: Vec::new() });
+            hash = sodium::sha512(&[&hash[..], block].concat()).to_vec();
+            let message = block_message(&self.id, offset, &hash);
+            extension = [b";ouisig=", &base64::encode(&self.signer.sign(&message))[..]].concat();
+            let asked = block_message(&self.id, said, &hash).len();
+            lines = vec![format!("question {asked}"), format!("block {said} {}", block.len())];
+            (offset, said) = (offset + self.block_size as u64, said + self.block_size as u64);
         }
-        bytes.extend(b"\r\n");
-        Part { kind, bytes, lines }
+        parts.push(self.line(Kind::ZeroLine, 0, &extension, lines));
+        parts
+    }
+
+    fn line(&self, kind: Kind, size: usize, extension: &[u8], lines: Vec<String>) -> Part {
+        Part { kind, bytes: [&self.sizes.write(size)[..], extension, b"\r\n"].concat(), lines }
     }
 }
 

@@ -1,9 +1,11 @@
-//! Plans drawn at random: sizes, field orders, cases, blanks, key rings; now and then a long head or trailer, or an end of the show.
+//! Plans drawn at random: sizes, field orders, cases, blanks, key rings; now and then a long head or trailer, or an end of the show. And streams
+//! of such plans, now and then of a part of the show.
 
 use crate::ends::{self, faults::FAULTS};
 use crate::head::Field;
 use crate::limits::{before, SECTION};
-use crate::plan::{blocks_of, Plan, RingRecord, SizeStyle};
+use crate::parts;
+use crate::plan::{blocks_of, Built, Plan, RingRecord, SizeStyle};
 use crate::rng::Rng;
 use crate::sodium::Signer;
 
@@ -20,6 +22,12 @@ const MOST_RANDOM_VALUE: usize = 22_000;
 pub fn plan(rng: &mut Rng) -> Plan {
     let plan = bare_plan(rng);
     maybe_ended(plan, rng)
+}
+
+/// The stream of such a plan, or now and then a part answer.
+pub fn built(rng: &mut Rng) -> Built {
+    let plan = plan(rng);
+    parts::maybe_part(&plan, rng)
 }
 
 /// Such a plan with two full blocks at least and a short one at the end, so that every rule can be broken on it.

@@ -1,5 +1,5 @@
-//! The cases of a seed, in order: first the fixed tables, then files of URIs, repeated fields, asked URIs, longer heads and ends of shows, then
-//! damaged text, then damage at every place (in an order that the seed shuffles) and random streams by turns.
+//! The cases of a seed, in order: first the fixed tables, then files of URIs, the example's part, repeated fields, asked URIs, longer heads, ends
+//! of shows and part answers, then damaged text, then damage at every place (in an order that the seed shuffles) and random streams by turns.
 
 use crate::asked;
 use crate::bounds;
@@ -9,6 +9,7 @@ use crate::ends;
 use crate::example;
 use crate::inputs;
 use crate::longer;
+use crate::parts;
 use crate::plan::Built;
 use crate::random;
 use crate::repeated;
@@ -16,6 +17,9 @@ use crate::rng::Rng;
 use crate::rules::{self, Rule};
 use crate::wrong_text;
 use std::collections::VecDeque;
+
+/// The number of the cases of the example's part, where those of other groups never come.
+const PART_OF_EXAMPLE: u64 = 1 << 37;
 
 /// The groups that cases come from.
 #[derive(Clone, Copy, PartialEq, Eq, Debug)]
@@ -28,12 +32,13 @@ pub enum Group {
     Asked,
     Longer,
     Ends,
+    Parts,
     Text,
     Damage,
     Mixed,
 }
 
-pub const GROUPS: [(&str, Group); 11] = [
+pub const GROUPS: [(&str, Group); 12] = [
     ("example", Group::Example),
     ("rules", Group::Rules),
     ("bounds", Group::Bounds),
@@ -42,6 +47,7 @@ pub const GROUPS: [(&str, Group); 11] = [
     ("asked", Group::Asked),
     ("longer", Group::Longer),
     ("ends", Group::Ends),
+    ("parts", Group::Parts),
     ("text", Group::Text),
     ("damage", Group::Damage),
     ("mixed", Group::Mixed),
@@ -69,7 +75,8 @@ pub struct Sequence {
     number: u64,
     mixed: bool,
     fixed: VecDeque<Case>,
-    /// Files of a URI, repeated fields, asked URIs, longer heads and ends: they do not count, so that no other case depends on them.
+    /// Files of a URI, the example's part, repeated fields, asked URIs, longer heads, ends and parts: they do not count, so that no other case
+    /// depends on them.
     apart: VecDeque<Case>,
     /// How many cases of damaged text are left.
     texts: usize,
@@ -85,7 +92,7 @@ impl Sequence {
         let mut fixed = VecDeque::new();
         let has = |group| groups.contains(&group);
         if has(Group::Example) {
-            fixed.extend(example_cases(&mut rng));
+            fixed.extend(ways_of("the example", &example::plan().build(), &mut rng));
         }
         if has(Group::Rules) {
             fixed.extend(rule_cases(&rules, &mut rng));
@@ -103,6 +110,13 @@ impl Sequence {
         if has(Group::Inputs) {
             apart.extend(inputs::about_uri());
         }
+        if has(Group::Example) {
+            apart.extend(ways_of(
+                "the example's part",
+                &example::part().build(),
+                &mut Rng::for_case(seed, PART_OF_EXAMPLE),
+            ));
+        }
         if has(Group::Repeated) {
             apart.extend(repeated::all(seed));
         }
@@ -114,6 +128,9 @@ impl Sequence {
         }
         if has(Group::Ends) {
             apart.extend(ends::all(seed));
+        }
+        if has(Group::Parts) {
+            apart.extend(parts::all(seed));
         }
         let texts = if has(Group::Text) { wrong_text::COUNT } else { 0 };
         Sequence { seed, number: 0, mixed: has(Group::Mixed), fixed, apart, texts, rules, small, hits }
@@ -156,22 +173,21 @@ impl Iterator for Sequence {
     }
 }
 
-/// The example in several ways of cutting and answering.
-fn example_cases(rng: &mut Rng) -> Vec<Case> {
-    let built = example::plan().build();
-    let mut cases = vec![Case::whole("the example", &built, Answering::AllYes, rng)];
+/// A stream in several ways of cutting and answering.
+fn ways_of(name: &str, built: &Built, rng: &mut Rng) -> Vec<Case> {
+    let mut cases = vec![Case::whole(name, built, Answering::AllYes, rng)];
     cases[0].cuts = None;
     for cut in [1, 2, 3, 5, 7, 64, 1000] {
-        let mut case = Case::whole(format!("the example in pieces of {cut}"), &built, Answering::Verified, rng);
+        let mut case = Case::whole(format!("{name} in pieces of {cut}"), built, Answering::Verified, rng);
         case.cuts = Some(format!("{cut}\n").into_bytes());
         cases.push(case);
     }
     for count in 0..4 {
-        cases.push(Case::whole(format!("the example, no to question {count}"), &built, Answering::NoAfter(count), rng));
-        cases.push(Case::whole(format!("the example, {count} answers"), &built, Answering::OutAfter(count), rng));
+        cases.push(Case::whole(format!("{name}, no to question {count}"), built, Answering::NoAfter(count), rng));
+        cases.push(Case::whole(format!("{name}, {count} answers"), built, Answering::OutAfter(count), rng));
     }
     for _ in 0..8 {
-        cases.push(Case::whole("the example in some pieces", &built, Answering::Verified, rng));
+        cases.push(Case::whole(format!("{name} in some pieces"), built, Answering::Verified, rng));
     }
     cases
 }
@@ -208,7 +224,7 @@ fn mixed_case(rules: &[Rule], rng: &mut Rng) -> Case {
             rule.case(spot, &plan, *rng.pick(&[Answering::AllYes, Answering::Verified]), rng)
         }
         7 => {
-            let built = random::plan(rng).build();
+            let built = random::built(rng);
             let mut bytes = built.bytes();
             let length = rng.below(bytes.len() + 1);
             bytes.truncate(length);
@@ -216,15 +232,15 @@ fn mixed_case(rules: &[Rule], rng: &mut Rng) -> Case {
             Case::known(format!("a random stream cut off at {length}"), known, Answering::Verified, rng)
         }
         _ => {
-            let built = random::full_plan(rng).build();
-            damage::several(&built, rng)
+            let plan = random::full_plan(rng);
+            damage::several(&parts::maybe_part(&plan, rng), rng)
         }
     }
 }
 
 /// A random honest stream, answered in some way, with some bytes behind it now and then.
 fn honest_case(rng: &mut Rng) -> Case {
-    let built = random::plan(rng).build();
+    let built = random::built(rng);
     let questions = built.lines().iter().filter(|line| line.starts_with("question")).count();
     let answering = match rng.below(8) {
         0 => Answering::NoAfter(rng.below(questions)),

@@ -16,7 +16,12 @@ pub const COUNT: usize = 3600;
 
 /// A case of a random stream.
 pub fn case(rng: &mut Rng) -> Case {
-    let mut built = random::bare_full_plan(rng).build();
+    let built = random::bare_full_plan(rng).build();
+    spoilt(built, rng)
+}
+
+/// A case of this stream, which must have a block at least.
+pub fn spoilt(mut built: Built, rng: &mut Rng) -> Case {
     let (part, edits) = match rng.below(10) {
         0..=3 => (0, [&ANY[..], &LINES, &HEAD].concat()),
         4..=6 => (any_line(&built, rng), [&ANY[..], &CHUNK_LINE].concat()),

@@ -8,12 +8,15 @@ use second::plain::{self, Kind};
 use second::reader::Reader;
 use second::ring::Record;
 use std::collections::BTreeMap;
+use streams::answers;
 use streams::case::{Case, Expected};
 use streams::end;
 use streams::ends;
 use streams::example;
 use streams::limits;
+use streams::part_answer::PartAnswer;
 use streams::plan::{Built, RingRecord};
+use streams::random;
 use streams::repeated;
 use streams::rng::Rng;
 use streams::sequence::{all_groups, Group, Sequence};
@@ -154,7 +157,7 @@ fn check(case: &Case, with_calls: bool) {
 #[test]
 fn reader_and_plain_reading_agree() {
     let groups: Vec<Group> = all_groups().into_iter().filter(|&group| group != Group::Text).collect();
-    for case in Sequence::new(11, &groups).take(5600).chain(Sequence::new(11, &[Group::Text]).take(1000)) {
+    for case in Sequence::new(11, &groups).take(7200).chain(Sequence::new(11, &[Group::Text]).take(1000)) {
         check(&case, false);
     }
 }
@@ -165,7 +168,7 @@ fn calls_agree_on_short_streams() {
     let cases = short(&[Group::Example, Group::Damage, Group::Mixed]).take(150);
     for mut case in cases
         .chain(short(&[Group::Text]).take(60))
-        .chain(short(&[Group::Repeated, Group::Asked, Group::Ends]).step_by(5))
+        .chain(short(&[Group::Repeated, Group::Asked, Group::Ends, Group::Parts]).step_by(5))
     {
         if case.cuts.as_deref() == Some(b"1\n") {
             case.cuts = Some(b"7\n0\n1\n".to_vec());
@@ -179,6 +182,7 @@ fn calls_agree_on_short_streams() {
 fn a_feed_takes_the_shortest_beginning_that_gains_an_event() {
     assert_eq!(check_counts(&example::short_plan().build()), Word::Closed { total: 2 });
     assert_eq!(check_counts(&example::plan().build()), Word::Complete { total: 12 });
+    assert_eq!(check_counts(&example::part().build()), Word::Closed { total: 7 });
 }
 
 /// All answers are yes. Gives the last word.
@@ -406,9 +410,7 @@ fn ends_of_all_kinds() {
     let random = Sequence::new(5, &[Group::Mixed]).take(3000).map(|case| ("random", case));
     for (group, case) in Sequence::new(5, &[Group::Ends]).map(|case| ("ends", case)).chain(random) {
         let Expected::Exactly { lines, .. } = &case.expected else { continue };
-        let words: Vec<&str> = lines.last().expect("an event").split(' ').collect();
-        let kind = if words[0] == "refused" { words[1] } else { words[0] };
-        *counts.entry((group, kind.to_string())).or_default() += 1;
+        *counts.entry((group, last_word(lines).to_string())).or_default() += 1;
     }
     println!("ends: {counts:?}");
     for (group, kind, least) in [
@@ -430,6 +432,82 @@ fn ends_of_all_kinds() {
     ] {
         let found = counts.get(&(group, kind.to_string())).copied().unwrap_or(0);
         assert!(found >= least, "{group}, {kind}: {found}");
+    }
+}
+
+/// What a case comes to: its last word, or the number that it is refused with.
+fn last_word(lines: &[String]) -> &str {
+    let words: Vec<&str> = lines.last().expect("an event").split(' ').collect();
+    if words[0] == "refused" {
+        words[1]
+    } else {
+        words[0]
+    }
+}
+
+/// What the group of part answers has, by what comes of them and whether their head was accepted, and that random streams have such answers
+/// too.
+#[test]
+fn parts_of_all_kinds() {
+    let mut counts: BTreeMap<(&str, &str, String), usize> = BTreeMap::new();
+    let random = Sequence::new(5, &[Group::Mixed]).take(3000).map(|case| ("random", case));
+    for (group, case) in Sequence::new(5, &[Group::Parts]).map(|case| ("parts", case)).chain(random) {
+        let Expected::Exactly { lines, .. } = &case.expected else { continue };
+        let is_part = case.stream.starts_with(b"HTTP/1.1 206 ");
+        let kind = match lines.get(1).map(String::as_str) {
+            Some("head 206") => "accepted",
+            _ if is_part => "head",
+            _ => "whole",
+        };
+        *counts.entry((group, kind, last_word(lines).to_string())).or_default() += 1;
+    }
+    println!("part answers: {counts:?}");
+    for (group, kind, last, least) in [
+        ("parts", "accepted", "closed", 350),
+        ("parts", "accepted", "6", 150),
+        ("parts", "accepted", "7", 100),
+        ("parts", "accepted", "8", 80),
+        ("parts", "accepted", "10", 15),
+        ("parts", "accepted", "11", 30),
+        ("parts", "accepted", "question", 8),
+        ("parts", "head", "3", 12),
+        ("parts", "head", "4", 230),
+        ("parts", "head", "5", 4),
+        ("parts", "head", "10", 4),
+        ("parts", "head", "12", 1),
+        ("parts", "head", "16", 2),
+        ("parts", "whole", "8", 30),
+        ("parts", "whole", "closed", 24),
+        ("random", "accepted", "closed", 60),
+        ("random", "accepted", "10", 5),
+        ("random", "accepted", "11", 5),
+    ] {
+        let found = counts.get(&(group, kind, last.to_string())).copied().unwrap_or(0);
+        assert!(found >= least, "{group}, {kind}, {last}: {found}");
+    }
+}
+
+/// With real signatures a part answer of any kind gives out bytes of its show, at the offsets where they are.
+#[test]
+fn parts_of_one_show_are_its_bytes() {
+    let mut rng = Rng::new(23);
+    for _ in 0..60 {
+        let show = random::full_plan(&mut rng);
+        let (body, count) = (show.blocks.concat(), show.blocks.len());
+        for first in 0..count {
+            let answer = PartAnswer::of(&show, first..rng.between(first + 1, count));
+            let built = answer.build();
+            let stream = built.bytes();
+            let answers = answers::verified(&stream, &built.ring, &built.uri);
+            let reading = plain::read(&stream, &records(&built.ring), &built.uri, &answers, true);
+            let blocks: Vec<_> = reading.events.iter().filter(|placed| placed.block.is_some()).collect();
+            assert_eq!(blocks.len(), answer.plan.blocks.len());
+            for placed in blocks {
+                let Event::Block { offset, length } = placed.event else { panic!("no block") };
+                let range = placed.block.clone().expect("its place");
+                assert_eq!(stream[range], body[offset as usize..][..length as usize]);
+            }
+        }
     }
 }
 

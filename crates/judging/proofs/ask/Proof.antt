@@ -10,8 +10,8 @@ part-requires c κs = search needs
 part-requires-2 : tie.Need-part-requires-2
 part-requires-2 c κs = search needs
 
-part-requires-3 : tie.Need-part-requires-3
-part-requires-3 c κs = search needs
+signed-status-requires : tie.Need-signed-status-requires
+signed-status-requires c κs = search needs
 
 put-string-requires : tie.Need-put-string-requires
 put-string-requires c κs = search needs
@@ -26,7 +26,7 @@ returns c =
     let s = d .before in
     let l = s .before in
     let a = l .before .before .before .before .before .before .before .before .before in
-    asked-is _ _ (a .pre .0) (a .pre .1 .0) _ _ _ (l .part .ensures) (s .part2 .ensures) (d .part3 .ensures) _ (a .pre .1 .1) _ _ (p .put-string .ensures) _
+    asked-is _ _ (a .pre .0) (a .pre .1 .0) _ _ _ (l .part .ensures) (s .part2 .ensures) (d .signed-status .ensures) _ (a .pre .1 .1) _ _ (p .put-string .ensures) _
 
 pub ask-spec : {M : Type 1} → statement M
 ask-spec =
@@ -34,7 +34,7 @@ ask-spec =
     (tie.spec
     part-requires
     part-requires-2
-    part-requires-3
+    signed-status-requires
     put-string-requires
     same-length
     returns)

@@ -57,6 +57,36 @@ pub fn head_with(lines: &str, listed: &str) -> Vec<u8> {
     listed.replacen("\r\n", &format!("\r\n{lines}"), 1).into_bytes()
 }
 
+/// The hash of the example's first block, as document 000 prints it.
+pub const HASH_0: &str = "NhX4DJ0pPtdAJof5SyLVjlKbjMeRb4+sf933+9WvTPd309eVp6AKFr9+fz+5Vh7puq5IDan+ehh2nnGIawPzFQ==";
+
+/// The example's head as that of a part answer, with this `Content-Range` and the status of the whole answer.
+pub fn part_head(range: &str) -> String {
+    part_head_with(&format!("Content-Range: {range}\r\nX-Ouinet-HTTP-Status: 200\r\n"))
+}
+
+/// The example's head with status 206 and these lines.
+pub fn part_head_with(lines: &str) -> String {
+    let head = String::from_utf8(head_with(lines, "")).expect("a head of text");
+    head.replacen("200 OK", "206 Partial Content", 1)
+}
+
+/// The lines of the example's body, chunk lines and data by turns, up to the trailer.
+pub fn body_lines() -> [String; 7] {
+    let body = std::str::from_utf8(&front()[head_with("", "").len()..]).expect("a body of text");
+    let lines: Vec<String> = body.split_inclusive("\r\n").map(str::to_string).collect();
+    lines.try_into().expect("three blocks and the line of size 0")
+}
+
+/// Document 000's part answer, `bytes 5-11/12`: the second and the third block. Its head has the fields about the end.
+pub fn part() -> Vec<u8> {
+    let [_, _, _, second, line, third, zero] = body_lines();
+    let ends = ends().trim_end();
+    let head = part_head_with(&format!("{ends}\r\nContent-Range: bytes 5-11/12\r\nX-Ouinet-HTTP-Status: 200\r\n"));
+    let first = format!("5;ouihash={HASH_0}\r\n");
+    [head, first, second, line, third, zero, "\r\n".to_string()].concat().into_bytes()
+}
+
 /// An event as a line of the small program.
 pub fn line(event: &Event) -> String {
     match event {

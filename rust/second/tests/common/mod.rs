@@ -2,6 +2,8 @@
 //! stand-ins, since the readings ask about them and never check them. Each test uses some of it.
 #![allow(dead_code)]
 
+pub mod ways;
+
 use second::ring::Record;
 
 pub const KEY: &str = "AAAAAAAAAAAAAAAAAAAAAAAAAAAAAAAAAAAAAAAAAAA=";

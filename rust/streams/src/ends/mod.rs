@@ -24,12 +24,12 @@ const RANDOM: u64 = 200;
 const FROM: u64 = 1 << 35;
 
 /// Which of the three stand in the head.
-type Mix = [bool; 3];
+pub(crate) type Mix = [bool; 3];
 
 const IN_TRAILER: Mix = [false; 3];
 const IN_HEAD: Mix = [true; 3];
 
-fn mixes() -> [Mix; 8] {
+pub(crate) fn mixes() -> [Mix; 8] {
     std::array::from_fn(|mix| std::array::from_fn(|number| mix >> number & 1 == 1))
 }
 
@@ -68,7 +68,7 @@ pub fn all(seed: u64) -> Vec<Case> {
 }
 
 /// The example, and nothing about its end.
-fn bare() -> Plan {
+pub(crate) fn bare() -> Plan {
     let mut plan = example::plan();
     plan.trailer = b"\r\n".to_vec();
     plan

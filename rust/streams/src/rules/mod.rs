@@ -9,6 +9,7 @@ mod in_signatures;
 
 use crate::case::{Answering, Case};
 use crate::head::Head;
+use crate::part_answer::PartAnswer;
 use crate::plan::{Built, Kind, Known, Part, Plan};
 use crate::rng::Rng;
 use second::event::Refusal;
@@ -68,7 +69,25 @@ impl Rule {
         let uri = plan.uri();
         let mut plan = plan.clone();
         (self.plan)(&mut plan);
-        let mut built = Built { uri, ..plan.build() };
+        self.break_built(spot, Built { uri, ..plan.build() }, &plan, rng)
+    }
+
+    /// Whether the rule is one of part answers too: not where another status or other blocks break it.
+    pub(crate) fn fits_part(&self, plan: &Plan) -> bool {
+        let mut edited = plan.clone();
+        (self.plan)(&mut edited);
+        edited.status == plan.status && edited.blocks == plan.blocks
+    }
+
+    /// Breaks the rule at this spot of a part answer, which must have two blocks.
+    pub(crate) fn break_part(&self, spot: Spot, answer: &mut PartAnswer, rng: &mut Rng) -> Known {
+        let uri = answer.plan.uri();
+        (self.plan)(&mut answer.plan);
+        self.break_built(spot, Built { uri, ..answer.build_unjudged() }, &answer.plan, rng)
+    }
+
+    /// Breaks the rule, where that is done on the head or on a part, at this spot of a plan's stream.
+    fn break_built(&self, spot: Spot, mut built: Built, plan: &Plan, rng: &mut Rng) -> Known {
         let number = part_number(&built, spot, rng);
         if spot == Spot::Head {
             (self.head)(&mut built.head);
@@ -76,7 +95,7 @@ impl Rule {
         }
         let mut lines = built.lines_before(number);
         let part: &mut Part = &mut built.parts[number];
-        let spoilt = (self.part)(&part.bytes, &plan);
+        let spoilt = (self.part)(&part.bytes, plan);
         part.bytes = spoilt.bytes;
         let refusal = Refusal { number: self.number, at: spoilt.at };
         lines.push(refusal.to_string());

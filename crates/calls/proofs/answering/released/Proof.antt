@@ -4,8 +4,8 @@ use Rattle.calls.specs.Answer.{releasing}
 use Rattle.calls.proofs.answering.released.Statement.{statement}
 use Rattle.calls.proofs.answering.released.Tie as tie
 
-body-with-requires : tie.Need-body-with-requires
-body-with-requires c κs = search needs
+released-with-requires : tie.Need-released-with-requires
+released-with-requires c κs = search needs
 
 announced-requires : tie.Need-announced-requires
 announced-requires c κs = search needs
@@ -18,9 +18,9 @@ following-requires c κs = search needs
 
 returns : tie.Need-returns
 unfolding releasing
-returns c = rw (c .in-phase .ensures, c .before .announced .ensures, c .before .before .body-with .ensures, c .before .before .before .following .ensures)
+returns c = rw (c .in-phase .ensures, c .before .announced .ensures, c .before .before .released-with .ensures, c .before .before .before .following .ensures)
 
 pub released-spec : {M : Type 1} → statement M
 released-spec =
     tie.close
-    (tie.spec following-requires body-with-requires announced-requires in-phase-requires returns)
+    (tie.spec following-requires released-with-requires announced-requires in-phase-requires returns)

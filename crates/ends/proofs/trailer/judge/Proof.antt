@@ -1,22 +1,22 @@
 -- Each way by what is known there. Assumes nothing.
 use mathlib.Core.Bool.{true}
 use mathlib.Core.List.{List}
-use mathlib.Core.Path.{_≡_, sym, ap, _∙_}
+use mathlib.Core.Path.{_≡_, sym, ap₂, _∙_}
 use Prim.Native.Nat.{ℕ}
 use borrow.Author.Tests.{not-true, not-false}
 use denote.Ref.{now}
-use Rattle.stream.specs.Ends.{allFields, isClaimed}
-use Rattle.stream.specs.Head.{headOf, textRules}
+use Rattle.stream.specs.Ends.{allFields, isChecked}
+use Rattle.stream.specs.Head.{headOf, rangeOf, textRules}
 use Rattle.stream.specs.Rule.{firstBroken}
 use Rattle.stream.specs.Trailer.{isTrailer}
-use Rattle.ends.proofs.FaultLaws.{all-there}
+use Rattle.ends.proofs.FaultLaws.{all-there, range-there}
 use Rattle.ends.proofs.JudgeLaws.{trailer-lines, judged-text, judged-head, judged-closed, judged-claimed}
 use borrow.Author.Needs.{needs}
 use Rattle.ends.proofs.trailer.judge.Statement.{statement}
 use Rattle.ends.proofs.trailer.judge.Tie as tie
 
--- where it is asked whether an end is claimed
-module _ (c : tie.After-is-claimed) where
+-- where it is asked whether an end is to be checked
+module _ (c : tie.After-is-checked) where
   abbrev r : tie.After-read
   r = c .before .before .before
 
@@ -28,13 +28,14 @@ module _ (c : tie.After-is-claimed) where
 
   known
       : (isTrailer trailer ≡ true) × (firstBroken (textRules text (headOf text)) ≡ 0)
-      × (isClaimed (allFields (headOf text) trailer) ≡ c .is-claimed .result)
+      × (isChecked (rangeOf (headOf text)) (allFields (headOf text) trailer) ≡ c .is-checked .result)
   known =
       let e = r .before in
       let z = c .before .if2 .left in
       let g = sym (e .before .is-trailer .ensures) ∙ not-false _ (e .if1 .left) in
       let x = r .read .ensures in
-      (g, sym (x .fault) ∙ z, ap isClaimed (sym (all-there text (r .read .result) x z trailer)) ∙ sym (c .is-claimed .ensures (trailer-lines trailer g)))
+      let said = r .read .result in
+      (g, sym (x .fault) ∙ z, ap₂ isChecked (sym (range-there text said x z trailer)) (sym (all-there text said x z trailer)) ∙ sym (c .is-checked .ensures (trailer-lines trailer g)))
 
 is-trailer-requires : tie.Need-is-trailer-requires
 is-trailer-requires c κs = search needs
@@ -67,8 +68,8 @@ returns-2 c =
     rw (c .refused2 .ensures, c .before .plain .ensures)
     (judged-head _ _ _ _ _ (sym (e .before .is-trailer .ensures) ∙ not-false _ (e .if1 .left)) (λ k. t .if2 .taken (r .read .ensures .fault ∙ k)))
 
-is-claimed-requires : tie.Need-is-claimed-requires
-is-claimed-requires c κs = search needs
+is-checked-requires : tie.Need-is-checked-requires
+is-checked-requires c κs = search needs
 
 returns-3 : tie.Need-returns-3
 returns-3 c =
@@ -104,7 +105,7 @@ judge-spec =
     plain-requires
     refused-requires-2
     returns-2
-    is-claimed-requires
+    is-checked-requires
     returns-3
     answer-requires
     same-length

@@ -10,30 +10,26 @@ read-lines-requires c κs = search needs
 version-fault-requires : tie.Need-version-fault-requires
 version-fault-requires c κs = search needs
 
-part-requires : tie.Need-part-requires
-part-requires c κs = search needs
-
-status-number-requires : tie.Need-status-number-requires
-status-number-requires c κs = search needs
-
 is-plain-requires : tie.Need-is-plain-requires
 is-plain-requires c κs = search needs
 
 read-signed-requires : tie.Need-read-signed-requires
 read-signed-requires c κs = search needs
 
+read-status-requires : tie.Need-read-status-requires
+read-status-requires c κs = search needs
+
 fault-requires : tie.Need-fault-requires
 fault-requires c κs = search needs
 
 returns : tie.Need-returns
 returns c =
-    let s = c .before .before in
+    let t = c .before .before .before in
+    let s = t .before .before in
     let p = s .before in
-    let n = p .before in
-    let d = n .before in
-    let v = d .before in
+    let v = p .before in
     let l = v .before .before in
-    head-reads _ _ (l .read-lines .ensures) _ (s .read-signed .ensures) _ _ _ _ _ (v .version-fault .ensures) (d .part .ensures) (n .status-number .ensures) (p .is-plain .ensures) (c .fault .ensures)
+    head-reads _ _ (l .read-lines .ensures) _ (s .read-signed .ensures) _ _ _ _ (v .version-fault .ensures) (p .is-plain .ensures) (t .read-status .ensures) (c .fault .ensures)
 
 pub read-spec : {M : Type 1} → statement M
 read-spec =
@@ -41,9 +37,8 @@ read-spec =
     (tie.spec
     read-lines-requires
     version-fault-requires
-    part-requires
-    status-number-requires
     is-plain-requires
     read-signed-requires
+    read-status-requires
     fault-requires
     returns)

@@ -51,12 +51,16 @@ put-number-requires c κs = search needs
 put-body-requires : tie.Need-put-body-requires
 put-body-requires c κs = search needs
 
+put-extent-requires : tie.Need-put-extent-requires
+put-extent-requires c κs = search needs
+
 same-length : tie.Need-same-length
 same-length c = search needs
 
 returns : tie.Need-returns
 returns c =
-    let n₆ = c .before .before in
+    let n₇ = c .before .before in
+    let n₆ = n₇ .before .before .before .before in
     let n₅ = n₆ .before .before .before .before in
     let n₄ = n₅ .before .before .before .before in
     let n₃ = n₄ .before .before .before .before in
@@ -71,9 +75,11 @@ returns c =
     let x = n₂ .put-fixed .ensures in
     let y = n₃ .put-chain .ensures in
     let z = n₄ .put-128 .ensures in
-    let e = all-put r (x .1) (y .1) (z .1) d _ _ _ _ _ _ m (x .0) (y .0) (z .0) (n₅ .put-number .ensures) (n₆ .put-body .ensures) in
+    let w = n₇ .put-extent .ensures in
     let k = in-range (r .phase) (f .result) (p .second .result) (f .ensures .0) (p .second .ensures) (f .ok) (p .second .ok) (f .ensures .1) in
-    (e, ap decoded e ∙ decoded-sets r (sound r _ (s .good .0) k) d (s .pre))
+    let o = sound r _ (s .good .0) k (w .1) in
+    let e = all-put r (x .1) (y .1) (z .1) (o .chain .body) d _ _ _ _ _ _ _ m (x .0) (y .0) (z .0) (n₅ .put-number .ensures) (n₆ .put-body .ensures) (w .0) in
+    (e, ap decoded e ∙ decoded-sets r o d (s .pre))
 
 pub put-all-spec : {M : Type 1} → statement M
-put-all-spec = tie.close (tie.spec tag-requires first-requires second-requires slice-aggregate-put-numbers put-numbers-requires put-fixed-requires put-chain-requires put-128-requires put-number-requires put-body-requires same-length returns)
+put-all-spec = tie.close (tie.spec tag-requires first-requires second-requires slice-aggregate-put-numbers put-numbers-requires put-fixed-requires put-chain-requires put-128-requires put-number-requires put-body-requires put-extent-requires same-length returns)

@@ -22,19 +22,22 @@ enum-known-answer-2 c = search needs
 announced-requires : tie.Need-announced-requires
 announced-requires c κs = search needs
 
-in-phase-requires-2 : tie.Need-in-phase-requires-2
-in-phase-requires-2 c κs = search needs
+started-requires : tie.Need-started-requires
+started-requires c κs = search needs
+
+with-chain-requires : tie.Need-with-chain-requires
+with-chain-requires c κs = search needs
 
 said-requires-2 : tie.Need-said-requires-2
 said-requires-2 c κs = search needs
 
 returns : tie.Need-returns
 unfolding firstAnswered refuse
-returns c = λ h b q. first-at _ _ _ _ (c .before .before .before .answer .given .1) (rw (c .said .ensures, c .before .in-phase .ensures, cleared-none))
+returns c = λ h b q. first-at _ _ _ _ _ (c .before .before .before .answer .given .1) (rw (c .said .ensures, c .before .in-phase .ensures, cleared-none))
 
 returns-2 : tie.Need-returns-2
 unfolding firstAnswered
-returns-2 c = λ h b q. first-at _ _ _ _ (c .before .before .before .before .answer2 .given .1) (rw (c .said2 .ensures, c .before .in-phase2 .ensures, c .before .before .announced .ensures))
+returns-2 c = λ h b q. first-at _ _ _ _ _ (c .before .before .before .before .before .answer2 .given .1) (rw (c .said2 .ensures, c .before .with-chain .ensures, c .before .before .started .ensures, c .before .before .before .announced .ensures))
 
 pub answer-first-spec : {M : Type 1} → statement M
 answer-first-spec =
@@ -45,7 +48,8 @@ answer-first-spec =
     said-requires
     enum-known-answer-2
     announced-requires
-    in-phase-requires-2
+    started-requires
+    with-chain-requires
     said-requires-2
     returns
     returns-2)

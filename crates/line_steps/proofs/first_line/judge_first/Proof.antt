@@ -5,7 +5,7 @@ use mathlib.Core.Path.{_≡_}
 use native.Mathlib.Nat.{sub-zero}
 use native.Mathlib.Omega.{arith}
 use lib.ListN.{length}
-use Rattle.line_steps.specs.FirstLine.{firstGathered}
+use Rattle.line_steps.specs.FirstLine.{firstJudged, firstGathered}
 use Rattle.line_steps.proofs.first_line.judge_first.Statement.{statement}
 use Rattle.line_steps.proofs.first_line.judge_first.Tie as tie
 
@@ -40,8 +40,11 @@ part-judge-start c = search needs
 
 part-judge-end : tie.Need-part-judge-end
 part-judge-end c =
-    let l : length (c .before .before .before .before .before .before .before .args .r .line) ≡ 128 = search (needs, c .before .before .before .before .before .before .before .good .0 .1 .1 .1 .1 .1 .0 .1 .0 .1) in
+    let l : length (c .before .before .before .before .before .before .before .before .args .r .line) ≡ 128 = search (needs, c .before .before .before .before .before .before .before .before .good .0 .1 .1 .1 .1 .1 .0 .1 .0 .1) in
     omega arith
+
+first-byte-requires : tie.Need-first-byte-requires
+first-byte-requires c κs = search needs
 
 judge-requires : tie.Need-judge-requires
 judge-requires c κs = search needs
@@ -50,11 +53,14 @@ answer-first-requires : tie.Need-answer-first-requires
 answer-first-requires c κs = search needs
 
 returns-2 : tie.Need-returns-2
-unfolding firstGathered
+unfolding firstGathered firstJudged
 returns-2 c = λ h b q.
-    let w = rw sub-zero at (c .before .before .before .before .before .before .is-whole-line .ensures) in
-    let j = rw sub-zero at (c .before .judge .ensures) in
-    rw (← w, not-false (c .before .before .before .before .before .before .is-whole-line .result) (c .before .before .before .before .before .if1 .left), ← j) (c .answer-first .ensures h b q)
+    let j = c .before .before in
+    let f = j .before .before .before in
+    let i = f .before .before in
+    let w = rw sub-zero at (i .before .is-whole-line .ensures) in
+    let e = rw (sub-zero, f .first-byte .ensures) at (j .judge .ensures) in
+    rw (← w, not-false (i .before .is-whole-line .result) (i .if1 .left), ← e) (c .answer-first .ensures h b q)
 
 pub judge-first-spec : {M : Type 1} → statement M
 judge-first-spec =
@@ -66,6 +72,7 @@ judge-first-spec =
     is-whole-line-requires
     said-requires
     returns
+    first-byte-requires
     sub-judge
     part-judge-start
     part-judge-end

@@ -4,11 +4,11 @@ use Rattle.scanning.proofs.StepLaws.{mark-over, mark-more}
 use Rattle.scanning.proofs.chunk_steps.mark.Statement.{statement}
 use Rattle.scanning.proofs.chunk_steps.mark.Tie as tie
 
-letters-requires : tie.Need-letters-requires
-letters-requires c κs = search needs
+end-or-requires : tie.Need-end-or-requires
+end-or-requires c κs = search needs
 
 returns : tie.Need-returns
-returns c = mark-over _ _ _ (c .before .if1 .taken) (c .letters .ensures)
+returns c = mark-over _ _ _ (c .before .if1 .taken) (c .end-or .ensures)
 
 slice-aggregate-byte-at : tie.Need-slice-aggregate-byte-at
 slice-aggregate-byte-at c = search needs
@@ -16,8 +16,8 @@ slice-aggregate-byte-at c = search needs
 byte-at-requires : tie.Need-byte-at-requires
 byte-at-requires c κs = search needs
 
-add-t9 : tie.Need-add-t9
-add-t9 c = search needs
+add-t13 : tie.Need-add-t13
+add-t13 c = search needs
 
 next-if-requires : tie.Need-next-if-requires
 next-if-requires c κs = search needs
@@ -29,10 +29,10 @@ pub mark-spec : {M : Type 1} → statement M
 mark-spec =
     tie.close
     (tie.spec
-    letters-requires
+    end-or-requires
     returns
     slice-aggregate-byte-at
     byte-at-requires
-    add-t9
+    add-t13
     next-if-requires
     returns-2)

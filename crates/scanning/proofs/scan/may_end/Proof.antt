@@ -9,7 +9,7 @@ use types.Run.{OneOf, miss}
 use Rattle.scanner.specs.Form.{mayEndForm}
 use Rattle.scanning.specs.States.{formAt}
 use Rattle.scanning.specs.declared.state.State.{State}
-use Rattle.scanning.specs.declared.state.State.the-variants.{Line, Digits, Mark, Letters, Pads, Pad, Return, Version, Status, Lines, Field, FieldName, Value, LineFeed, Name, NameRest, End}
+use Rattle.scanning.specs.declared.state.State.the-variants.{Line, Digits, Mark, Sig, Hash, Letters, Pads, Pad, Return, Version, Status, Lines, Field, FieldName, Value, LineFeed, Name, NameRest, End}
 use Rattle.scanning.proofs.StepLaws.{ends-is}
 use Rattle.scanning.proofs.state.State.{the-type}
 use Rattle.scanning.proofs.scan.may_end.Statement.{statement}
@@ -17,12 +17,14 @@ use Rattle.scanning.proofs.scan.may_end.Tie as tie
 
 -- the states by their numbers, without the last two
 abbrev others : List ℕ
-others = 0 ∷ 1 ∷ 2 ∷ 3 ∷ 4 ∷ 5 ∷ 6 ∷ 7 ∷ 8 ∷ 9 ∷ 10 ∷ 11 ∷ 12 ∷ 13 ∷ 14 ∷ []
+others = 0 ∷ 1 ∷ 2 ∷ 3 ∷ 4 ∷ 5 ∷ 6 ∷ 7 ∷ 8 ∷ 9 ∷ 10 ∷ 11 ∷ 12 ∷ 13 ∷ 14 ∷ 15 ∷ 16 ∷ []
 
 none-ends : (s : State) → OneOf others (tagOf the-type s) → false ≡ mayEndForm (formAt s)
 none-ends Line h = ends-is Line
 none-ends (Digits n) h = ends-is (Digits n)
 none-ends (Mark k) h = ends-is (Mark k)
+none-ends (Sig k) h = ends-is (Sig k)
+none-ends (Hash k) h = ends-is (Hash k)
 none-ends (Letters n) h = ends-is (Letters n)
 none-ends Pads h = ends-is Pads
 none-ends Pad h = ends-is Pad
@@ -35,8 +37,8 @@ none-ends (FieldName follows) h = ends-is (FieldName follows)
 none-ends (Value follows) h = ends-is (Value follows)
 none-ends (LineFeed follows) h = ends-is (LineFeed follows)
 none-ends Name h = ends-is Name
-none-ends NameRest h = absurd (miss others 15 tt h)
-none-ends End h = absurd (miss others 16 tt h)
+none-ends NameRest h = absurd (miss others 17 tt h)
+none-ends End h = absurd (miss others 18 tt h)
 
 enum-told : tie.Need-enum-told
 enum-told c = search needs
