@@ -347,8 +347,12 @@ spoiled() {
     oui-sign part large.oui --from 8000 | go_on
     said_just 2 "$1" && cmp -s got now && cmp -s got.unfinished now.unfinished
 }
+# unlike PLACE: a byte that kept has not at this place, counted from 0; its bytes are random.
+unlike() {
+    if dd if=kept bs=1 skip="$1" count=1 2>/dev/null | cmp -s - <(printf x); then printf y; else printf x; fi
+}
 begin
-{ printf x; tail -c +2 kept; } >got
+{ unlike 0; tail -c +2 kept; } >got
 expect 'a first byte that was changed' spoiled "got: its first 8000 bytes are not those that were verified (got.unfinished): it was changed since; $over"
 cp kept got
 { printf x; cat kept; } >got
@@ -381,7 +385,7 @@ expect 'they are no longer there' test "$status" -eq 3 -a "$(size got)" -eq 9000
 expect 'and the others are' cmp -s -n 9000 got show
 # The last block but one is recorded, too: where the last one is wrong, that will do
 begin
-{ head -c 7500 kept; printf x; tail -c +7502 kept; } >got
+{ head -c 7500 kept; unlike 7500; tail -c +7502 kept; } >got
 oui-sign part large.oui --from 7000 | go_on
 expect 'a last block that was changed' test "$status" -eq 0 -a "$(head -n 1 said)" = 'oui-fetch: got: of 8000 verified bytes the first 7000 are still there'
 expect 'is fetched again' is_whole
