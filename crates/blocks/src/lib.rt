@@ -1,4 +1,6 @@
 // Blocks: their numbers and offsets, the hash chain, and the message that a block's signature signs.
+#![tactic(auto)]
+
 mod hashes; // the hash chain
 mod messages; // the message that a signature signs
 mod offsets; // block numbers and byte offsets

@@ -1,4 +1,6 @@
 // What one byte of a block's data or of its end does: it is gathered, and what is whole with it is judged.
+#![tactic(auto)]
+
 mod data; // a block's data, and the CR LF after it
 mod runs; // a run of data at once
 

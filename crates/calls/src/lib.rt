@@ -1,4 +1,6 @@
 // The calls that bring no bytes, an answer and the end, and what all calls of the reader share.
+#![tactic(auto)]
+
 mod answering; // an answer to an open question
 mod ending; // the end of the stream
 mod outcome; // what a call gives, and what stands before every call

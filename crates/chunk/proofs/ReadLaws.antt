@@ -10,9 +10,9 @@ use borrow.Author.Tests.{le-leb, lt-leb, leb-true, leb-false, eqb-true}
 use lib.Dec.{eqb, leb, lit≤}
 use lib.ListN.{length, take, drop, length-drop}
 use lib.Seq.{take_all}
-use Rattle.base64.specs.Base64.{is_base64, base64_bytes}
-use Rattle.base64.specs.Decoding.{answered, decoded}
-use Rattle.base64.proofs.Laws.{answer_is, buffer_read}
+use Rattle.base64_text.specs.Base64.{is_base64, base64_bytes}
+use Rattle.base64_text.specs.Decoding.{answered, decoded}
+use Rattle.base64_text.proofs.Laws.{answer_is, buffer_read}
 use Rattle.number.proofs.Forms.{hex_found, hex_missed}
 use Rattle.number.specs.Reading.{hex_read}
 use Rattle.number.specs.declared.Number.TheVariants.{Value, Bad}

@@ -1,7 +1,7 @@
 -- What the private functions' contracts name: a line's text by its parts, and the rules after the text's. No public
 -- contract names these. Assumes nothing.
 use Rattle.std.specs.Prelude.{Bool, true, false, ◌&&◌, ◌||◌, not, List, [], ◌∷◌, ℕ, ◌+◌, eqb, leb, length, drop}
-use Rattle.base64.specs.Base64.{is_base64, base64_bytes}
+use Rattle.base64_text.specs.Base64.{is_base64, base64_bytes}
 use Rattle.octets.specs.Choice.{pick}
 use Rattle.stream.specs.Blocks.{ouisig, ouihash, is_chunk_line, carries_signature, carries_hash, chunk_size, same_bool, is_hash_due}
 use Rattle.stream.specs.Bytes.{is_hex}

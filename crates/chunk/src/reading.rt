@@ -32,7 +32,7 @@ fn read_carried(value: &[u8], size: u64, signed: bool) -> ChunkText
     ensures { result ≡ carried_read size signed value.now }
 {
     let mut carried = [0u8; 64];
-    if !base64::signature(value, &mut carried) {
+    if !base64_text::signature(value, &mut carried) {
         return wrong();
     }
     ChunkText {

@@ -1,4 +1,6 @@
 // Bytes by class, how far a run of bytes of one class goes, and a text without the blanks at its ends.
+#![tactic(auto)]
+
 ghost use Rattle.std.specs.Prelude.{◌≡◌, ◌+◌, drop, length};
 ghost use Rattle.octets.specs.Octets.{octets};
 ghost use Rattle.stream.specs.Bytes.{is_blank, is_digit, is_hex, is_id_byte, is_letter, is_quoted, is_tchar, is_text, one_of};

@@ -8,9 +8,9 @@ use borrow.Author.Tests.{le-leb}
 use lib.Dec.{leb}
 use lib.ListN.{length, take, drop, take-append-drop}
 use lib.Pow.{are_bytes}
-use Rattle.base64.specs.Base64.{text_of, is_base64, base64_bytes}
-use Rattle.base64.proofs.Laws.{bytes_length, bytes_below}
-use Rattle.base64.proofs.Unique.{bytes_text}
+use Rattle.base64_text.specs.Base64.{text_of, is_base64, base64_bytes}
+use Rattle.base64_text.proofs.Laws.{bytes_length, bytes_below}
+use Rattle.base64_text.proofs.Unique.{bytes_text}
 use Rattle.stream.specs.Blocks.{line_text, size_text, extension, ouisig, ouihash, signature_text, hash_text, carries_signature, carries_hash, is_extension, is_chunk_line, line_signature, line_hash}
 use Rattle.stream.specs.Bytes.{same, is_hex}
 use Rattle.stream.specs.Limits.{size_digits}

@@ -1,5 +1,7 @@
 // The reader's calls, with contracts in the words of the claims: a run starts from `freshReader`, `called` is one call of it, and
 // `blockSeen`, `valueSeen` and `countSeen` are what the claims say a caller sees. Each body is the call itself.
+#![tactic(auto)]
+
 ghost use Rattle.std.specs.Prelude.{List, ◌≡◌, ℕ};
 ghost use Rattle.sections.specs.Calls as C;
 ghost use Rattle.state.specs.Configuration.{configuration, fresh_reader};

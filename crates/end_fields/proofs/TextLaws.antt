@@ -6,8 +6,8 @@ use Prim.Native.Nat.{ℕ, ◌-◌}
 use native.Mathlib.Omega.{arith}
 use lib.ListN.{length, drop, replicate, length-drop}
 use lib.Seq.{take_all}
-use Rattle.base64.specs.Base64.{is_base64, base64_bytes}
-use Rattle.base64.specs.Decoding.{Decoded, answered, decoded}
+use Rattle.base64_text.specs.Base64.{is_base64, base64_bytes}
+use Rattle.base64_text.specs.Decoding.{Decoded, answered, decoded}
 use Rattle.octets.specs.Choice.{pick}
 use Rattle.places.specs.Place.{part_of}
 use Rattle.stream.specs.Ends.{digest_label, is_digest, digest_bytes, is_data_size}

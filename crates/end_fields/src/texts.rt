@@ -24,7 +24,7 @@ pub fn read_digest(value: &[u8]) -> Digest
     if !text::starts_with(value, 0, b"SHA-256=") {
         return Digest { good: false, bytes };
     }
-    let good = base64::key(places::part(value, 8, value.len()), &mut bytes);
+    let good = base64_text::key(places::part(value, 8, value.len()), &mut bytes);
     Digest { good, bytes }
 }
 

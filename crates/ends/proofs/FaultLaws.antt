@@ -5,7 +5,7 @@ use mathlib.Core.Path.{◌≡◌, refl, ap, ap₂, ◌∙◌}
 use Prim.Native.Nat.{ℕ}
 use lib.Dec.{eqb}
 use Rattle.octets.specs.Choice.{pick}
-use Rattle.base64.specs.Base64.{base64_bytes}
+use Rattle.base64_text.specs.Base64.{base64_bytes}
 use Rattle.places.specs.Place.{part_of}
 use Rattle.stream.specs.Bytes.{same}
 use Rattle.stream.specs.Ends.{digest_name, data_size_name, sig1_name, is_once, is_digest, digest_bytes, is_data_size, added_names, same_names, all_fields, ends_in, is_end_list, end_rules, end_fault}

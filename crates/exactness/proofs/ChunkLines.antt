@@ -10,9 +10,9 @@ use lib.Dec.{leb}
 use lib.ListN.{length, length-append}
 use lib.Pow.{are_bytes}
 use lib.Seq.{take_at}
-use Rattle.base64.specs.Base64.{text_of, is_base64}
-use Rattle.base64.proofs.Laws.{text_length}
-use Rattle.base64.proofs.Written.{text_is, text_bytes}
+use Rattle.base64_text.specs.Base64.{text_of, is_base64}
+use Rattle.base64_text.proofs.Laws.{text_length}
+use Rattle.base64_text.proofs.Written.{text_is, text_bytes}
 use Rattle.stream.specs.Blocks.{line_text, size_text, extension, ouisig, ouihash, carries_signature, carries_hash, is_extension, is_chunk_line, chunk_size, line_signature, line_hash}
 use Rattle.stream.specs.Bytes.{all, same, is_hex}
 use Rattle.stream.specs.Limits.{line_limit, size_digits, body_limit}

@@ -9,7 +9,7 @@ use lib.Dec.{eqb}
 use lib.ListN.{length, take, drop, get_or, length-append}
 use lib.Pow.{are_bytes}
 use lib.Seq.{drop_at, take-append-le}
-use Rattle.base64.specs.Base64.{alphabet, letter_of, text_of}
+use Rattle.base64_text.specs.Base64.{alphabet, letter_of, text_of}
 use Rattle.stream.specs.Bytes.{all, same, is_hex}
 use Rattle.stream.specs.Lines.{crlf, ends_with}
 use Rattle.stream.proofs.Truth.{left_holds, right_holds, same_equal, same_self}

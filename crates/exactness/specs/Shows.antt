@@ -3,7 +3,7 @@
 -- (request #101). Assumes nothing.
 use Rattle.std.specs.Prelude.{Bool, true, List, [], ◌∷◌, ◌++◌, ◌≡◌, ℕ, zero, suc, ◌+◌, ◌≤◌, length}
 use Rattle.std.proofs.Math.Pow.{are_bytes}
-use Rattle.base64.specs.Base64.{text_of}
+use Rattle.base64_text.specs.Base64.{text_of}
 use Rattle.stream.specs.Blocks.{ouisig, ouihash}
 use Rattle.stream.specs.Head.{head_of, range_of, block_size}
 use Rattle.stream.specs.Limits.{size_digits, body_limit}

@@ -6,7 +6,7 @@ use Prim.Native.Nat.{ℕ, ◌≤◌}
 use native.Mathlib.Omega.{arith}
 use lib.ListN.{length, replicate}
 use Rattle.octets.specs.Octets.{octets}
-use Rattle.base64.specs.Base64.{is_base64, letter_value, holds_three, holds_two, holds_one, joined_letters, base64_bytes, text_of}
+use Rattle.base64_text.specs.Base64.{is_base64, letter_value, holds_three, holds_two, holds_one, joined_letters, base64_bytes, text_of}
 use Rattle.sections.specs.Reading.{cut, cut_at}
 use Rattle.sections.proofs.Cuts.{cut_is}
 use Rattle.stream.specs.Bytes.{all, same, lowered, same_name}

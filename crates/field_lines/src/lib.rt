@@ -1,4 +1,6 @@
 // Lines by themselves: a field line, the status line, and a trailer, whose lines are field lines.
+#![tactic(auto)]
+
 mod entry; // where a field's name and value lie
 mod line; // one field line, and the status line
 mod search; // the fields of a trailer by their name

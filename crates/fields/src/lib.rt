@@ -1,4 +1,6 @@
 // The fields of a head as a table of places in its text: read, and looked up by their names.
+#![tactic(auto)]
+
 mod doubled; // two fields of one name that must not be there twice
 mod lookup; // fields by their name
 mod reading; // the field lines of a head, as a table

@@ -1,5 +1,7 @@
 // The reader's calls on buffers of any lengths: of each they lend on just the first part, as many bytes as the reader is to have, so
 // that whatever the state says no byte beyond is read or written.
+#![tactic(auto)]
+
 ghost use Rattle.std.specs.Prelude.{◌≡◌, take};
 ghost use Rattle.stream.specs.Limits.{head_limit, block_limit};
 ghost use Rattle.handing.specs.Handing.{handed_count, handed_value};

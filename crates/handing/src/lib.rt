@@ -1,4 +1,6 @@
 // What is handed out, as parts of lent buffers: the released block, and the values of the accepted head.
+#![tactic(auto)]
+
 mod released; // a block
 mod signed; // the value of a signed field, and how many there are
 

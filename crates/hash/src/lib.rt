@@ -1,4 +1,6 @@
 // SHA-512 (FIPS 180-4) of bytes that the caller lends, of any number.
+#![tactic(auto)]
+
 ghost use Rattle.std.specs.Prelude.{◌≡◌, ◌++◌};
 ghost use Rattle.hash.specs.Sha512.{sha512};
 

@@ -1,4 +1,6 @@
 // SHA-512 and SHA-256 for a program in C or Rust, with numbers and slices of bytes alone.
+#![tactic(auto)]
+
 ghost use Rattle.std.specs.Prelude.{◌≡◌};
 ghost use Rattle.hash_export.specs.Export.{made, answered, answered256};
 

@@ -1,4 +1,6 @@
 // A head read: the table of its fields, what its signature fields say, and the first rule that it breaks.
+#![tactic(auto)]
+
 mod lines; // the status line and the field lines
 mod plain; // the version, the status and the fields that are compared with fixed text
 mod signed; // the fields that hold parameters

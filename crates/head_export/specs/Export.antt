@@ -1,7 +1,7 @@
 -- What the exported function answers. Assumes nothing.
 use Rattle.std.specs.Prelude.{List, [], ◌∷◌, ℕ}
 use Rattle.octets.specs.Choice.{pick}
-use Rattle.base64.specs.Base64.{is_base64, base64_bytes}
+use Rattle.base64_text.specs.Base64.{is_base64, base64_bytes}
 use Rattle.stream.specs.Ring.{Ring}
 use Rattle.judging.specs.declared.HeadAnswer.{HeadAnswer}
 use Rattle.judging.specs.declared.HeadAnswer.TheVariants.{Refused, Asks}

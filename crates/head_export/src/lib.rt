@@ -1,4 +1,6 @@
 // The judgement of a head for a program in C or Rust, with numbers and slices of bytes alone.
+#![tactic(auto)]
+
 ghost use Rattle.std.specs.Prelude.{◌≡◌};
 ghost use Rattle.ring.specs.Keys.{ring_of};
 ghost use Rattle.head_export.specs.Export.{made, answered, number_of, one_key};
@@ -11,7 +13,7 @@ fn one_key(text: &[u8], first: u64, last: u64) -> KeyRing
     ensures { ring_of result ≡ one_key text.now first last }
 {
     let mut key = [0; 32];
-    if !base64::key(text, &mut key) {
+    if !base64_text::key(text, &mut key) {
         return ring::empty();
     }
     ring::added(ring::empty(), KeyRecord { key, first, last })

@@ -1,4 +1,6 @@
 // What one byte of the head does: it is gathered from the front of the head buffer, and the head that is whole with it is judged.
+#![tactic(auto)]
+
 ghost use Rattle.std.specs.Prelude.{List, ◌≡◌, ℕ, ◌≤◌, length};
 ghost use Rattle.ring.specs.Keys.{terms_of};
 ghost use Rattle.stream.specs.Head.{is_whole_head};

@@ -3,7 +3,7 @@ use ring::{KeyRecord, KeyRing};
 
 fn trusted(text: &[u8], first: u64, last: u64) -> KeyRecord {
     let mut key = [0; 32];
-    base64::key(text, &mut key);
+    base64_text::key(text, &mut key);
     KeyRecord { key, first, last }
 }
 

@@ -1,6 +1,8 @@
 // Judges heads at the limits of the rules, and heads that break one rule each, and writes a line for each. Standard input holds the
 // cases, one after another: a line with a label and a length, then that many bytes of head. Both `stdin` and `stdout`, which the run is
 // held to, are written by cases.py from the rules.
+#![tactic(auto)]
+
 mod cases;
 mod keys;
 mod lines;

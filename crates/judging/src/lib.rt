@@ -1,4 +1,6 @@
 // A head judged: its fault, or the question that it asks, with the signing string written into a lent buffer.
+#![tactic(auto)]
+
 ghost use Rattle.std.proofs.Math.Option.{none};
 ghost use Rattle.std.specs.Prelude.{◌≡◌, ◌≤◌, length};
 ghost use Rattle.octets.specs.Choice.{pick};

@@ -6,7 +6,7 @@ use mathlib.Core.Path.{◌≡◌, refl}
 use Prim.Native.Nat.{ℕ}
 use lib.ListN.{replicate, drop}
 use Rattle.octets.specs.Octets.{octets}
-use Rattle.base64.specs.Base64.{is_base64, letter_value, holds_three, holds_two, holds_one, joined_letters, base64_bytes}
+use Rattle.base64_text.specs.Base64.{is_base64, letter_value, holds_three, holds_two, holds_one, joined_letters, base64_bytes}
 use Rattle.sections.specs.Reading.{Log, cut, sections, reading_at, reading}
 use Rattle.stream.specs.Blocks.{is_whole_line, carries_signature, carries_hash, is_extension, is_chunk_line, chunk_size, is_hash_due, line_rules, line_fault}
 use Rattle.stream.specs.Bytes.{all, same, lowered, same_name}

@@ -10,7 +10,7 @@ use lib.ListN.{length, take, drop, get_or}
 use lib.Seq.{get_or-take}
 use Rattle.octets.specs.Choice.{pick}
 use Rattle.octets.specs.Octets.{octets}
-use Rattle.base64.specs.Base64.{is_base64}
+use Rattle.base64_text.specs.Base64.{is_base64}
 use Rattle.sha256.specs.Sha256.{sha256}
 use Rattle.sections.specs.Reading.{last, go, ask, stop, final, Cut, uncut, cut_at, cut}
 use Rattle.stream.specs.Blocks.{size_text, extension, ouisig, ouihash, carries_signature, carries_hash, is_extension, is_chunk_line, chunk_size, same_bool, is_hash_due, line_rules, line_fault}

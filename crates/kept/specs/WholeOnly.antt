@@ -1,7 +1,7 @@
 -- Before request #104: no part answers, and no `ouihash`. "Paper 01's status rule, first-line rule and chain start are amended"; as they were they
 -- stand here, with what a chunk line could be, in the midst of all others as they are now. Assumes nothing.
 use Rattle.std.specs.Prelude.{Bool, true, false, ◌&&◌, ◌||◌, not, List, [], ◌∷◌, ◌++◌, ℕ, ◌+◌, eqb, leb, length, take, drop}
-use Rattle.base64.specs.Base64.{is_base64}
+use Rattle.base64_text.specs.Base64.{is_base64}
 use Rattle.scanner.specs.Form.{Form, done, one, up_to, either, text, after as before}
 use Rattle.sections.specs.Reading.{Log, go, ask, stop, granted, final, Rules, reading}
 use Rattle.sha256.specs.Sha256.{sha256}

@@ -6,7 +6,7 @@ use mathlib.Core.Path.{◌≡◌, refl}
 use Prim.Native.Nat.{ℕ, ◌-◌}
 use lib.ListN.{length, replicate, take}
 use Rattle.octets.specs.Octets.{octets}
-use Rattle.base64.specs.Base64.{is_base64, letter_value, holds_three, holds_two, holds_one, joined_letters, base64_bytes}
+use Rattle.base64_text.specs.Base64.{is_base64, letter_value, holds_three, holds_two, holds_one, joined_letters, base64_bytes}
 use Rattle.stream.specs.Bytes.{all, same, lowered, same_name}
 use Rattle.stream.specs.Fields.{among, is_doubled, is_protected, is_protected_doubled, names_of, has_field, value_of}
 use Rattle.stream.specs.Head.{ends_head, is_whole_head, head_with, head_of, status_digits, injection_time, block_key, head_key, listed_names, trusted_by, text_rules, caller_rules, head_fault, is_partial, is_ranged, signed_status}

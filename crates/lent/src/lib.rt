@@ -1,5 +1,7 @@
 // The key ring as a lent table. Whoever has the records in a slice of any length feeds through here: the slice is taken apart, and
 // the reader gets its ring by value.
+#![tactic(auto)]
+
 ghost use Rattle.std.specs.Prelude.{[], ◌≡◌};
 ghost use Rattle.state.specs.Configuration.{configuration};
 ghost use Rattle.calls.specs.Response.{made};

@@ -1,6 +1,7 @@
 // Paper 01's limits as the code has them, each named once, in the order of the definitions (stream/specs/Limits.antt). There is nothing to
 // prove here: what keeps to a limit is proved against the rule that has it, so that a number which differs from the definition's is refused
 // there. The state and its bytes have lengths of their own: an id of 64 bytes, a line of 128.
+#![tactic(auto)]
 
 // A head, and a trailer, without its end is refused at this many bytes. The head buffer and the question buffer have as many at least.
 pub const HEAD_LIMIT: usize = 32_768;

@@ -1,4 +1,6 @@
 // The list of names that a signature covers: read, and held against the fields of the head.
+#![tactic(auto)]
+
 mod doubled; // two names that are the same
 mod list; // the names one by one
 mod reading; // a text split into names

@@ -1,5 +1,7 @@
 // Numbers read from bytes and written as bytes. A reader takes any slice: what is no number of the form is Bad, with the length of its longest
 // beginning that some number of the form also has.
+#![tactic(auto)]
+
 ghost use Rattle.std.specs.Prelude.{◌≡◌, ℕ, ◌^◌, ◌≤◌, min, length};
 ghost use Rattle.octets.specs.Viable.{LongestViable};
 ghost use Rattle.stream.specs.GoodText.{is_count};

@@ -2,6 +2,8 @@
 // the bytes of the URI's file are the URI that was asked for. Where it is asked for, a refusal's line says where the text went wrong, and a last
 // line has the tally. A head with another URI gives one line on standard error too, with both. A file that is missing or malformed gives one line
 // on standard error and no event. A program of this language has no exit status: the lines tell.
+#![tactic(auto)]
+
 mod answers; // the letters y and n, read as they are needed
 mod cuts; // the lengths of the pieces
 mod files; // the files by the number of their argument

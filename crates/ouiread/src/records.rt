@@ -83,7 +83,7 @@ fn no_record() -> Record {
 // The record of a key's text and the two seconds' text after it.
 fn record_of(key_text: &[u8], seconds: &[u8]) -> Record {
     let mut key = [0; 32];
-    if !base64::key(key_text, &mut key) {
+    if !base64_text::key(key_text, &mut key) {
         return no_record();
     }
     if seconds.len() == 0 {

@@ -5,7 +5,7 @@ use mathlib.Core.Path.{◌≡◌, refl, ap, ◌∙◌}
 use Prim.Native.Nat.{ℕ, ◌≤◌}
 use lib.ListN.{length}
 use Rattle.octets.specs.Choice.{pick}
-use Rattle.base64.specs.Base64.{is_base64, base64_bytes}
+use Rattle.base64_text.specs.Base64.{is_base64, base64_bytes}
 use Rattle.stream.specs.Bytes.{between}
 use Rattle.stream.specs.Numbers.{is_decimal, decimal_value}
 use Rattle.stream.specs.Signatures.{is_injection, id_text, time_text, is_bsigs, key_text, block_size_text, is_sig0, created_text, names_text, head_signature_text}

@@ -4,7 +4,7 @@ use mathlib.Core.List.{List, [], ◌∷◌}
 use mathlib.Core.Path.{◌≡◌}
 use Prim.Native.Nat.{ℕ}
 use Rattle.octets.specs.Octets.{octets}
-use Rattle.base64.specs.Base64.{is_base64, base64_bytes}
+use Rattle.base64_text.specs.Base64.{is_base64, base64_bytes}
 use Rattle.stream.specs.Bytes.{is_digit}
 use Rattle.stream.specs.GoodText.{is_count}
 use Rattle.stream.specs.Numbers.{decimal_value}

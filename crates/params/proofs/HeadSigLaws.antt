@@ -6,9 +6,9 @@ use Prim.Native.Nat.{ℕ, ◌+◌, ◌≤◌, ◌<◌}
 use native.Mathlib.Omega.{arith}
 use lib.ListN.{length, drop}
 use Rattle.octets.specs.Octets.{octets}
-use Rattle.base64.proofs.Laws.{answer_is, buffer_read}
-use Rattle.base64.specs.Base64.{is_base64, base64_bytes}
-use Rattle.base64.specs.Decoding.{answered, decoded}
+use Rattle.base64_text.proofs.Laws.{answer_is, buffer_read}
+use Rattle.base64_text.specs.Base64.{is_base64, base64_bytes}
+use Rattle.base64_text.specs.Decoding.{answered, decoded}
 use Rattle.stream.specs.Bytes.{is_digit, is_quoted}
 use Rattle.stream.specs.Numbers.{is_decimal}
 use Rattle.stream.specs.Signatures.{is_sig0}

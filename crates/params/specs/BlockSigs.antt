@@ -1,7 +1,7 @@
 -- What the value of `X-Ouinet-BSigs` says (paper 01, "The head"). Assumes nothing.
 use Rattle.std.specs.Prelude.{true, false, replicate}
 use Rattle.octets.specs.Choice.{pick}
-use Rattle.base64.specs.Base64.{base64_bytes}
+use Rattle.base64_text.specs.Base64.{base64_bytes}
 use Rattle.stream.specs.Numbers.{decimal_value}
 use Rattle.stream.specs.Signatures.{is_bsigs, key_text, block_size_text}
 use Rattle.stream.specs.Template.{Scanned}

@@ -1,7 +1,7 @@
 -- What the value of `X-Ouinet-Sig0` says (paper 01, "The head"), and of `X-Ouinet-Sig1`, which is "written as Sig0" (request #101). Assumes nothing.
 use Rattle.std.specs.Prelude.{Bool, true, false, List, [], ◌≡◌, ℕ, ◌≤◌, length, replicate}
 use Rattle.octets.specs.Choice.{pick}
-use Rattle.base64.specs.Base64.{base64_bytes}
+use Rattle.base64_text.specs.Base64.{base64_bytes}
 use Rattle.stream.specs.Signatures.{is_sig0, key_text, created_text, names_text, head_signature_text}
 use Rattle.stream.specs.Template.{Scanned}
 use Rattle.places.specs.Place.{part_of}

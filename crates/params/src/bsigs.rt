@@ -47,7 +47,7 @@ fn judge(key: &[u8], size: &[u8]) -> Bsigs
     ensures { result ≡ bsigs_of (parts (key.now ∷ size.now ∷ [])) }
 {
     let mut bytes = [0u8; 32];
-    if !base64::key(key, &mut bytes) {
+    if !base64_text::key(key, &mut bytes) {
         return no_bsigs();
     }
     match number::count(size, limits::BLOCK_DIGITS, limits::BLOCK_LIMIT as u64) {

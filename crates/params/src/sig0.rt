@@ -78,11 +78,11 @@ fn judge(value: &[u8], key: Run, created: Run, names: Run, signature: Run) -> Si
     ensures { ReadsSig0 value.now (parts (map (run_bytes value.now) (key ∷ created ∷ names ∷ signature ∷ []))) result }
 {
     let mut key_bytes = [0u8; 32];
-    if !base64::key(parts::bytes_of(value, key), &mut key_bytes) {
+    if !base64_text::key(parts::bytes_of(value, key), &mut key_bytes) {
         return no_sig0();
     }
     let mut signature_bytes = [0u8; 64];
-    if !base64::signature(parts::bytes_of(value, signature), &mut signature_bytes) {
+    if !base64_text::signature(parts::bytes_of(value, signature), &mut signature_bytes) {
         return no_sig0();
     }
     match number::decimal(parts::bytes_of(value, created), limits::TIME_DIGITS) {

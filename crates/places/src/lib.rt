@@ -1,4 +1,6 @@
 // Numbers as places in a text, whatever they are: the bytes between two places, and bytes written from a place on.
+#![tactic(auto)]
+
 ghost use Rattle.std.specs.Prelude.{◌≡◌, ◌-◌, min, get_or};
 ghost use Rattle.places.specs.Place.{Clips, part_of};
 

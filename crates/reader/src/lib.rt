@@ -1,5 +1,7 @@
 // The reader: what a caller feeds, answers and ends, and what is handed out to it. Its state goes in and comes back by value,
 // and the bytes that it gathers lie in three lent buffers.
+#![tactic(auto)]
+
 mod feeding; // a piece of the stream
 
 pub use calls::{Outcome, answer, end};

@@ -1,6 +1,8 @@
 // The reader for a program in C or another language, with numbers and slices of bytes alone: its state lies in a lent buffer, is read
 // from it before each call and written back after it. Any bytes may stand in that buffer: of the three working buffers just the first
 // parts are lent on (crate fronts), so that the rest is safe from every state. See include/ouinet_reader.h.
+#![tactic(auto)]
+
 ghost use Rattle.std.specs.Prelude.{true, ◌≡◌, ◌≤◌, length};
 ghost use Rattle.packing.specs.Parts.{placing};
 ghost use Rattle.layout.specs.State.{state_size, decoded};

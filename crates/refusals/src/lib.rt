@@ -1,4 +1,6 @@
 // The refusal of a stream, as words and answers carry it.
+#![tactic(auto)]
+
 ghost use Rattle.std.specs.Prelude.{◌≡◌};
 ghost use Rattle.stream.specs.Events.{has_place};
 ghost use Rattle.refusals.specs.Refusals.{plain as plainRefusal, refusal_of};

@@ -1,5 +1,7 @@
 // What a call leaves, written down: the state after it and its result, the word, how many bytes were taken, the word's two numbers, and
 // a signature.
+#![tactic(auto)]
+
 mod telling; // the result
 mod writing; // the state and the result
 

@@ -1,4 +1,6 @@
 // The key ring by value: made record by record, and searched for a key that is trusted at a time.
+#![tactic(auto)]
+
 ghost use Rattle.std.specs.Prelude.{◌≡◌, [], min};
 ghost use Rattle.stream.specs.Limits.{ring_limit};
 ghost use Rattle.stream.specs.Ring.{found, fits as fits_of};

@@ -11,7 +11,7 @@ use lib.Dec.{eqb}
 use lib.ListN.{length, drop, get_or, drop_of_length-le}
 use lib.Seq.{drop-cons}
 use Rattle.octets.specs.Octets.{octets}
-use Rattle.base64.specs.Base64.{is_base64_letter}
+use Rattle.base64_text.specs.Base64.{is_base64_letter}
 use Rattle.scanner.specs.Form.{Form, done, many, either, text, or_else, when, step_form, may_end_form}
 use Rattle.scanner.proofs.Joined.{then_when}
 use Rattle.stream.specs.Bytes.{is_hex, is_digit, is_tchar, is_text}

@@ -1,6 +1,6 @@
 // A byte of a chunk line.
 ghost use Rattle.std.specs.Prelude.{◌≡◌};
-ghost use Rattle.base64.specs.Base64.{is_base64_letter};
+ghost use Rattle.base64_text.specs.Base64.{is_base64_letter};
 ghost use Rattle.scanner.specs.Form.{step_form};
 ghost use Rattle.stream.specs.Forms.{is_multiple};
 ghost use Rattle.scanning.specs.States.{digits_form, hash_form, letters_form, mark_form, meant, sig_form};
@@ -11,14 +11,14 @@ use classes::Class;
 fn is_letter(b: u8) -> bool
     ensures { result ≡ is_base64_letter b }
 {
-    base64::value(b) < 64
+    base64_text::value(b) < 64
 }
 
 // The letter before `==`: four of its six bits belong to no byte, and are zero.
 fn is_last_letter(b: u8) -> bool
     ensures { result ≡ is_multiple 16 b }
 {
-    let v = base64::value(b);
+    let v = base64_text::value(b);
     (v < 64) & (v % 16 == 0)
 }
 

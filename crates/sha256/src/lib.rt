@@ -1,4 +1,6 @@
 // SHA-256 (FIPS 180-4) of bytes that come in parts, of any number and however they are cut.
+#![tactic(auto)]
+
 ghost use Rattle.std.specs.Prelude.{◌≡◌, ◌+◌, ◌/◌, ◌%◌, ◌^◌, ◌<◌, ◌≤◌, ◌++◌, length};
 ghost use Rattle.hash.specs.Sha2.{hashed};
 ghost use Rattle.sha256.specs.Sha256.{variant, round_words, sha256};

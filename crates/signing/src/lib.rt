@@ -1,4 +1,6 @@
 // The signing string of a head, written into a lent buffer.
+#![tactic(auto)]
+
 mod line; // one line of the signing string
 mod string; // the signing string
 

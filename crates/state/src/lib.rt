@@ -1,4 +1,6 @@
 // What the reader keeps between calls: its state by subject, the words that it says, and the final refusal.
+#![tactic(auto)]
+
 mod buffers; // bytes cleared in a lent buffer
 mod phase; // where the reader stands in the stream
 mod reader; // the state

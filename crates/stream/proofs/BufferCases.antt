@@ -8,7 +8,7 @@ use Prim.Native.Nat.{ℕ}
 use Prim.Native.String.{String}
 use lib.ListN.{replicate}
 use Rattle.octets.specs.Octets.{octets}
-use Rattle.base64.specs.Base64.{is_base64, letter_value, holds_three, holds_two, holds_one}
+use Rattle.base64_text.specs.Base64.{is_base64, letter_value, holds_three, holds_two, holds_one}
 use Rattle.sections.specs.Reading.{cut}
 use Rattle.sections.specs.Leaving.{after_sections, leaving}
 use Rattle.stream.specs.Blocks.{is_whole_line, carries_signature, is_chunk_line, chunk_size, line_rules, line_fault, carries_hash, is_extension, is_hash_due}

@@ -8,8 +8,8 @@ use Prim.Native.Nat.{ℕ, ◌+◌, ◌≤◌}
 use native.Mathlib.Omega.{arith}
 use lib.Dec.{eqb, ltb}
 use lib.ListN.{length, drop, get_or, length-drop}
-use Rattle.base64.specs.Base64.{is_base64}
-use Rattle.base64.proofs.Laws.{text_length}
+use Rattle.base64_text.specs.Base64.{is_base64}
+use Rattle.base64_text.proofs.Laws.{text_length}
 use Rattle.stream.specs.Bytes.{all, is_digit}
 use Rattle.stream.specs.Ends.{Ends, is_digest, digest_label, ends_in, end_rules, end_fault, end_string}
 use Rattle.stream.specs.Head.{Head, head_of, status_digits, text_rules}

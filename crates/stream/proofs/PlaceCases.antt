@@ -7,7 +7,7 @@ use Prim.Native.Nat.{ℕ, zero, suc}
 use Prim.Native.String.{String}
 use lib.ListN.{length, replicate}
 use Rattle.octets.specs.Octets.{octets}
-use Rattle.base64.specs.Base64.{letter_value, is_base64, holds_three, holds_two, holds_one}
+use Rattle.base64_text.specs.Base64.{letter_value, is_base64, holds_three, holds_two, holds_one}
 use Rattle.scanner.specs.Form.{step_form, reach_form}
 use Rattle.scanner.specs.Scanner.{reach, reach_from}
 use Rattle.stream.specs.Blocks.{carries_signature, is_chunk_line, chunk_size, line_rules, line_fault, carries_hash, is_extension, is_hash_due}

@@ -9,7 +9,7 @@ use native.Mathlib.Omega.{arith}
 use lib.Dec.{eqb}
 use lib.ListN.{length, drop, length-append}
 use Rattle.octets.specs.Octets.{octets}
-use Rattle.base64.proofs.Laws.{text_length}
+use Rattle.base64_text.proofs.Laws.{text_length}
 use Rattle.stream.specs.Bytes.{same, lowered}
 use Rattle.stream.specs.Fields.{among, is_doubled, value_of}
 use Rattle.stream.specs.Head.{Head, head_of, head_with, signed_status, listed_names, signing_string, is_status, text_rules, caller_rules, head_fault}

@@ -8,7 +8,7 @@ use native.Mathlib.Nat.{suc-mul, zero-mul, le_trans, le_of_eq, sub-le, div-mul-l
 use lib.Dec.{eqb, leb}
 use lib.ListN.{length}
 use borrow.Author.Tests.{leb-true, eqb-true}
-use Rattle.base64.specs.Base64.{is_base64}
+use Rattle.base64_text.specs.Base64.{is_base64}
 use Rattle.sha256.specs.Sha256.{sha256}
 use Rattle.sections.specs.Reading.{go, tell, ask, stop, Grant, granted, final}
 use Rattle.stream.specs.Blocks.{chunk_size, line_hash, line_rules, line_fault}

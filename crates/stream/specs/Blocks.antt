@@ -1,7 +1,7 @@
 -- Chunk lines, the block rule, the hash chain and the block message (paper 01, "Blocks"). Assumes nothing.
 use Rattle.std.specs.Prelude.{Bool, true, false, ◌&&◌, ◌||◌, not, List, [], ◌∷◌, ◌++◌, ℕ, ◌+◌, ◌-◌, ◌*◌, eqb, leb, length, drop, take}
 use Rattle.octets.specs.Octets.{octets}
-use Rattle.base64.specs.Base64.{is_base64, base64_bytes}
+use Rattle.base64_text.specs.Base64.{is_base64, base64_bytes}
 use Rattle.hash.specs.Sha512.{sha512}
 use Rattle.stream.specs.Bytes.{is_hex}
 use Rattle.stream.specs.Limits.{line_limit, size_digits, body_limit}

@@ -2,7 +2,7 @@
 -- the three say, the rules that they must keep, in the order of the request's words, and the signing string over Sig1. Assumes nothing.
 use Rattle.std.specs.Prelude.{Bool, true, false, ◌&&◌, ◌||◌, not, List, [], ◌∷◌, ◌++◌, ℕ, eqb, length, drop}
 use Rattle.octets.specs.Octets.{octets}
-use Rattle.base64.specs.Base64.{is_base64, base64_bytes}
+use Rattle.base64_text.specs.Base64.{is_base64, base64_bytes}
 use Rattle.stream.specs.Bytes.{same, same_name}
 use Rattle.stream.specs.Fields.{among, has_field, value_of, count_of}
 use Rattle.stream.specs.Head.{Head, status_digits, head_key, listed_names}

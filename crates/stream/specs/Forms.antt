@@ -5,7 +5,7 @@ use Rattle.std.specs.Prelude.{Bool, true, false, ◌&&◌, ◌≡◌, refl, ℕ,
 use Rattle.std.proofs.Math.Option.{Option, none, some}
 use Rattle.octets.specs.Choice.{pick}
 use Rattle.octets.specs.Octets.{octets}
-use Rattle.base64.specs.Base64.{letter_value, is_base64_letter}
+use Rattle.base64_text.specs.Base64.{letter_value, is_base64_letter}
 use Rattle.scanner.specs.Form.{Class, Form, done, one, up_to, many, either, each, text, times, after}
 use Rattle.scanner.specs.Scanner.{Scanner}
 use Rattle.stream.specs.Bytes.{between, is_hex, is_digit, is_tchar, is_text}

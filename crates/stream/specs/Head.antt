@@ -4,7 +4,7 @@ use Rattle.std.specs.Prelude.{Bool, false, ◌&&◌, ◌||◌, not, List, [], �
 use Rattle.std.proofs.Math.Option.{Option}
 use Rattle.octets.specs.Choice.{pick}
 use Rattle.octets.specs.Octets.{octets}
-use Rattle.base64.specs.Base64.{base64_bytes}
+use Rattle.base64_text.specs.Base64.{base64_bytes}
 use Rattle.stream.specs.Bytes.{same, same_name}
 use Rattle.stream.specs.Fields.{is_protected_doubled, names_of, has_field, value_of, count_of}
 use Rattle.stream.specs.Limits.{head_limit, field_limit}

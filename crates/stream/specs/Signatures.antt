@@ -1,7 +1,7 @@
 -- The fields `X-Ouinet-Injection`, `X-Ouinet-BSigs` and `X-Ouinet-Sig0` (paper 01, "The head"). Assumes nothing.
 use Rattle.std.specs.Prelude.{Bool, true, false, ◌&&◌, not, List, [], ◌∷◌, ◌++◌, ℕ, eqb, leb, length, drop}
 use Rattle.octets.specs.Octets.{octets}
-use Rattle.base64.specs.Base64.{is_base64}
+use Rattle.base64_text.specs.Base64.{is_base64}
 use Rattle.stream.specs.Bytes.{between, is_digit, is_id_byte, is_quoted, same_name}
 use Rattle.stream.specs.Fields.{among, is_doubled, has_field}
 use Rattle.stream.specs.Limits.{id_limit, time_digits, block_limit, block_digits, name_limit}

@@ -1,4 +1,6 @@
 // The day tally: what a day's streams came to, counted event by event.
+#![tactic(auto)]
+
 ghost use Rattle.std.specs.Prelude.{◌≡◌};
 ghost use Rattle.tally.specs.Counting.{no_counts, grown as grownBy, with_block, with_closed, with_refused, refused_by, tallied_after};
 

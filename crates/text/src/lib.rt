@@ -1,5 +1,7 @@
 // Byte strings compared, and lines: each function takes bytes and numbers as they come, and its contract says what it answers
 // by the definitions of the crate `stream` and of this one.
+#![tactic(auto)]
+
 mod compare; // byte strings compared, with case and without
 mod lines; // where a line ends, and whether a text ends with one
 

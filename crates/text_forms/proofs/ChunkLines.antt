@@ -10,7 +10,7 @@ use lib.Dec.{eqb, leb}
 use lib.ListN.{length, drop, take}
 use Rattle.octets.specs.Octets.{octets}
 use Rattle.octets.specs.Viable.{LongestViable}
-use Rattle.base64.specs.Base64.{is_base64, letter_value}
+use Rattle.base64_text.specs.Base64.{is_base64, letter_value}
 use Rattle.scanner.specs.Form.{Form, done, either, text, step_form, may_end_form, accepts_form, reach_form}
 use Rattle.scanner.proofs.Every.{every}
 use Rattle.scanner.proofs.Forms.{form_end, form_off, form_alike}

@@ -8,7 +8,7 @@ use borrow.Author.Tests.{le-leb, ne_eqb}
 use lib.Dec.{eqb}
 use lib.ListN.{length}
 use Rattle.octets.specs.Octets.{octets}
-use Rattle.base64.specs.Base64.{letter_value, is_base64_letter, is_base64, holds_one, holds_three}
+use Rattle.base64_text.specs.Base64.{letter_value, is_base64_letter, is_base64, holds_one, holds_three}
 use Rattle.scanner.specs.Form.{Class, Form, done, one, only, text, accepts_form}
 use Rattle.scanner.proofs.Parts.{one_accepts, one_nil, done_accepts, done_nil}
 use Rattle.stream.specs.Forms.{letter, last_letter, signature_form}

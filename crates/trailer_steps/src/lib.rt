@@ -1,4 +1,6 @@
 // What one byte of the trailer does: it is gathered from the front of the block buffer, and judged once, at its end; with it the end of the show.
+#![tactic(auto)]
+
 ghost use Rattle.std.specs.Prelude.{List, ◌≡◌, ℕ, ◌≤◌, length};
 ghost use Rattle.stream.specs.Trailer.{is_whole_trailer};
 ghost use Rattle.state.specs.Configuration.{configuration, next_of};

@@ -32,7 +32,7 @@ fn say_answer(ok: bool, buffer: &[u8]) {
 
 // A text read as many bytes as the buffer has.
 fn read(text: &[u8], buffer: &mut [u8]) {
-    let ok = base64::decode(text, buffer);
+    let ok = base64_text::decode(text, buffer);
     say_number(buffer.len());
     say(b" bytes \"");
     say(text);
@@ -73,7 +73,7 @@ fn beginning(text: &[u8], n: usize, buffer: &mut [u8]) {
         return;
     }
     mark(buffer);
-    if base64::decode(&text[..n], buffer) {
+    if base64_text::decode(&text[..n], buffer) {
         say(b" ");
         say_number(n);
         return;
@@ -95,7 +95,7 @@ fn beginnings(text: &[u8], buffer: &mut [u8]) {
 }
 
 fn key(name: &[u8], text: &[u8], buffer: &mut [u8; 32]) {
-    let ok = base64::key(text, buffer);
+    let ok = base64_text::key(text, buffer);
     say(name);
     say_answer(ok, buffer);
 }
@@ -134,7 +134,7 @@ pub fn keys() {
 }
 
 fn signature(name: &[u8], text: &[u8], buffer: &mut [u8; 64]) {
-    let ok = base64::signature(text, buffer);
+    let ok = base64_text::signature(text, buffer);
     say(name);
     say_answer(ok, buffer);
 }
@@ -174,7 +174,7 @@ pub fn signatures() {
 
 // How far a text goes well as the base64 of n bytes.
 fn stop(name: &[u8], text: &[u8], n: usize) {
-    let checked = base64::check(text, n);
+    let checked = base64_text::check(text, n);
     say(name);
     say(b": ");
     say_number(checked.at);
@@ -192,7 +192,7 @@ fn stop_with(text: &mut [u8], n: usize, at: usize, b: u8) {
     let before = text[at];
     text[at] = b;
     say(b" ");
-    say_number(base64::check(text, n).at);
+    say_number(base64_text::check(text, n).at);
     text[at] = before;
 }
 

@@ -5,8 +5,8 @@ use mathlib.Core.List.{List, []}
 use Prim.Native.Nat.{ℕ}
 use borrow.Author.Rules.{rules}
 use borrow.Author.Tests.{not-true, not-false}
-use Rattle.base64.specs.Base64.{is_base64, base64_bytes}
-use Rattle.base64.proofs.Laws.{answer_is, buffer_read}
+use Rattle.base64_text.specs.Base64.{is_base64, base64_bytes}
+use Rattle.base64_text.proofs.Laws.{answer_is, buffer_read}
 use Rattle.ring.specs.Keys.{ring_with}
 use Rattle.stream.specs.Ring.{Ring}
 use Rattle.head_export.specs.Export.{one_key}

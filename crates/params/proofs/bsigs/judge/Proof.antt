@@ -2,7 +2,7 @@
 use mathlib.Core.Path.{sym, ◌∙◌}
 use borrow.Author.Tests.{not-true, not-false}
 use lib.Dec.{lit≤}
-use Rattle.base64.proofs.Laws.{answer_is, buffer_read}
+use Rattle.base64_text.proofs.Laws.{answer_is, buffer_read}
 use Rattle.number.proofs.Forms.{count_found, count_missed}
 use Rattle.params.proofs.BsigsLaws.{key_bad, size_bad, bsigs_good}
 use borrow.Author.Rules.{rules}

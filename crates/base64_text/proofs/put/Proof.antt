@@ -1,0 +1,21 @@
+-- `base64::put` meets its contract: past the end `set` changes nothing either. Assumes nothing.
+use borrow.Author.Rules.{rules}
+use mathlib.Core.Path.{sym}
+use lib.Seq.{set_out}
+use Rattle.base64_text.proofs.put.Statement.{statement}
+use Rattle.base64_text.proofs.put.Tie as tie
+
+slice-write-out : tie.Need-slice-write-out
+slice-write-out c = search rules
+
+same_length : tie.Need-same-length
+same_length c = search rules
+
+returns : tie.Need-returns
+returns c = search rules
+
+returns-2 : tie.Need-returns-2
+returns-2 c = sym (set_out _ _ _ c.if1.false)
+
+pub put_spec : {M : Type 1} → statement M
+put_spec = tie.close (tie.spec slice-write-out same_length returns returns-2)
