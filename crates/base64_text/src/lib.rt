@@ -11,7 +11,7 @@ ghost use Rattle.base64_text.specs.Decoding.{answered, decoded};
 use places::Checked;
 
 // How many of four characters may stand where they do, up to the first that may not; and the 24 bits of all four, padding as zeros.
-#[derive(Drop)]
+#[derive(Clone, Copy)]
 struct Group {
     standing: usize,
     bits: u32,

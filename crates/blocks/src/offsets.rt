@@ -3,11 +3,11 @@ ghost use Rattle.std.specs.Prelude.{◌≡◌, ◌/◌};
 ghost use Rattle.blocks.specs.Place.{offset_at};
 
 // A place in the body, in bytes.
-#[derive(Drop)]
+#[derive(Clone, Copy)]
 pub struct ByteOffset(pub u64);
 
 // The number of a block, counted from 0.
-#[derive(Drop)]
+#[derive(Clone, Copy)]
 pub struct BlockNumber(pub u64);
 
 // Where block i starts among blocks of `size` bytes; a place past the largest number is that number.

@@ -5,7 +5,7 @@ ghost use Rattle.body_steps.specs.Skip.{passed_of, skipped, skipped_data};
 use state::{Phase, Reader, in_phase};
 
 // The reader after the bytes, and how many they are.
-#[derive(Drop)]
+#[derive(Clone, Copy)]
 pub struct Passed {
     pub reader: Reader,
     pub taken: usize,

@@ -9,7 +9,7 @@ use state::{Phase, Reader, Stepped, Word};
 
 // The word, how many bytes of the piece were taken, the signature that a question is about (else zeros), and the reader after the
 // call.
-#[derive(Drop)]
+#[derive(Clone, Copy)]
 pub struct Outcome {
     pub word: Word,
     pub taken: usize,

@@ -10,7 +10,7 @@ use limits::BODY_LIMIT;
 use ranges::Extent;
 use refusals::Refusal;
 
-#[derive(Drop)]
+#[derive(Clone, Copy)]
 pub enum LineAnswer {
     Refused(Refusal),
     // announces so many bytes
@@ -18,7 +18,7 @@ pub enum LineAnswer {
 }
 
 // The answer, and the 64 bytes that a good line carries, a signature or a hash: zeros where it carries neither.
-#[derive(Drop)]
+#[derive(Clone, Copy)]
 pub struct Line {
     pub answer: LineAnswer,
     pub carried: [u8; 64],

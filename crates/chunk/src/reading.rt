@@ -6,7 +6,7 @@ use classes::Class;
 use number::Number;
 
 // The parts of a text that is good; all are zero and false in a text that is not. It carries a signature or a hash, or neither.
-#[derive(Drop)]
+#[derive(Clone, Copy)]
 pub(crate) struct ChunkText {
     pub good: bool,
     pub size: u64,

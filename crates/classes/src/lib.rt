@@ -11,7 +11,7 @@ mod spans; // a text without the blanks at its ends
 
 pub use spans::trim;
 
-#[derive(Drop)]
+#[derive(Clone, Copy)]
 pub enum Class {
     Tchar,
     Text,

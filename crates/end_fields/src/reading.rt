@@ -11,7 +11,7 @@ use fields::Fields;
 use params::Sig0;
 
 // Whether each is there once, and what each says. The places of `sig1` are places in the value of `X-Ouinet-Sig1`.
-#[derive(Drop)]
+#[derive(Clone, Copy)]
 pub struct EndRead {
     pub once: bool,
     pub digest: Digest,

@@ -5,13 +5,13 @@ ghost use Rattle.end_fields.specs.Texts.{digest_of, data_size_of};
 use number::Number;
 
 // The bytes are zero where the text is not good.
-#[derive(Drop)]
+#[derive(Clone, Copy)]
 pub struct Digest {
     pub good: bool,
     pub bytes: [u8; 32],
 }
 
-#[derive(Drop)]
+#[derive(Clone, Copy)]
 pub struct DataSize {
     pub good: bool,
     pub value: u64,

@@ -14,7 +14,7 @@ use ranges::Extent;
 use refusals::Refusal;
 
 // The stream is closed, with nothing to check. Or refused. Or complete if a signature is good, of the string whose `length` bytes were written.
-#[derive(Drop)]
+#[derive(Clone, Copy)]
 pub enum EndAnswer {
     Closes,
     Refused(Refusal),
@@ -22,7 +22,7 @@ pub enum EndAnswer {
 }
 
 // The signature is zero where nothing is asked.
-#[derive(Drop)]
+#[derive(Clone, Copy)]
 pub struct EndJudged {
     pub answer: EndAnswer,
     pub signature: [u8; 64],

@@ -3,7 +3,7 @@ ghost use Rattle.std.specs.Prelude.{◌≡◌};
 ghost use Rattle.field_lines.specs.Entries.{no_entry};
 
 // The field's name from `name_start` up to `name_end`, its value without the blanks at its ends likewise.
-#[derive(Drop)]
+#[derive(Clone, Copy)]
 pub struct Entry {
     pub name_start: usize,
     pub name_end: usize,

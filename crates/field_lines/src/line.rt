@@ -8,7 +8,7 @@ use crate::entry::Entry;
 use classes::Class;
 
 // Whether a line is a field line, and where its name and value lie.
-#[derive(Drop)]
+#[derive(Clone, Copy)]
 pub struct FieldLine {
     pub good: bool,
     pub entry: Entry,

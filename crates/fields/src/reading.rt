@@ -10,7 +10,7 @@ use field_lines::{Entry, FieldLine};
 use limits::FIELD_LIMIT;
 
 // Whether all lines are field lines, and no more than a head may have; and their table.
-#[derive(Drop)]
+#[derive(Clone, Copy)]
 pub struct FieldsRead {
     pub good: bool,
     pub fields: Fields,

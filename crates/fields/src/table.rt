@@ -7,14 +7,14 @@ use field_lines::Entry;
 use limits::FIELD_LIMIT;
 
 // The first `count` entries are fields.
-#[derive(Drop)]
+#[derive(Clone, Copy)]
 pub struct Fields {
     pub count: usize,
     pub entries: [Entry; FIELD_LIMIT],
 }
 
 // What was looked for: where its bytes lie in the text, and nowhere if it was not found.
-#[derive(Drop)]
+#[derive(Clone, Copy)]
 pub struct Value {
     pub found: bool,
     pub start: usize,

@@ -4,7 +4,7 @@ ghost use Rattle.head.specs.Steps.{ReadsLines};
 use fields::Fields;
 
 // Whether the lines keep the rules of lines, and the table of the fields, which says something only if they do.
-#[derive(Drop)]
+#[derive(Clone, Copy)]
 pub struct LinesRead {
     pub good: bool,
     pub fields: Fields,

@@ -11,7 +11,7 @@ use params::{Bsigs, Injection, Sig0};
 
 // Whether all of them are good, and what each says. The places of `sig0` are places in the head's text; those of `names` are
 // places in the part of it that has the names.
-#[derive(Drop)]
+#[derive(Clone, Copy)]
 pub struct Signed {
     pub good: bool,
     pub injection: Injection,

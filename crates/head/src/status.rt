@@ -10,7 +10,7 @@ use fields::Fields;
 use ranges::Extent;
 
 // Whether the rules of the status are kept, and only then the rest says something: the status as a number, and the bytes.
-#[derive(Drop)]
+#[derive(Clone, Copy)]
 pub struct StatusRead {
     pub good: bool,
     pub number: u64,

@@ -10,7 +10,7 @@ use ranges::Extent;
 
 // The number of the first broken rule, or 0. Only with 0 does the rest say something: the status as a number, the bytes of the body that
 // the answer carries, the table of the fields, and the parameters.
-#[derive(Drop)]
+#[derive(Clone, Copy)]
 pub struct HeadRead {
     pub fault: u8,
     pub status: u64,

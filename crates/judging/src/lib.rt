@@ -22,7 +22,7 @@ use ring::{Found, KeyRing};
 
 // Refused. Or accepted if a signature is good, of the string whose `length` bytes were written: the status, the
 // size of a block, the bytes of the body that the answer carries, the number of the key's record, and the length of the id.
-#[derive(Drop)]
+#[derive(Clone, Copy)]
 pub enum HeadAnswer {
     Refused(Refusal),
     Asks {
@@ -36,7 +36,7 @@ pub enum HeadAnswer {
 }
 
 // The first `id_length` bytes of `id` are the id. Where the head is refused, both arrays are zero.
-#[derive(Drop)]
+#[derive(Clone, Copy)]
 pub struct Judged {
     pub answer: HeadAnswer,
     pub signature: [u8; 64],

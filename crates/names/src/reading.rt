@@ -7,14 +7,14 @@ use limits::NAME_LIMIT;
 use places::Span;
 
 // The first `count` spans are names.
-#[derive(Drop)]
+#[derive(Clone, Copy)]
 pub struct Names {
     pub count: usize,
     pub spans: [Span; NAME_LIMIT],
 }
 
 // There are no names where the list is not good: it has too many.
-#[derive(Drop)]
+#[derive(Clone, Copy)]
 pub struct NamesRead {
     pub good: bool,
     pub names: Names,

@@ -10,14 +10,14 @@ ghost use Rattle.number.specs.Reading.{decimal_read, hex_read, count_read};
 ghost use Rattle.number.specs.Writing.{written, decimal_written};
 ghost use Rattle.number.specs.Digits.{digit_of, front_from, most_digits, fitting, whole_read};
 
-#[derive(Drop)]
+#[derive(Clone, Copy)]
 pub enum Number {
     Value(u64),
     Bad(usize),
 }
 
 // How many digits stand in front of a text, and the number that they write.
-#[derive(Drop)]
+#[derive(Clone, Copy)]
 struct Digits {
     count: usize,
     value: u64,

@@ -5,7 +5,7 @@ use crate::{files, messages};
 
 // The open file (with a negative number there is none), the line that is read, and the bytes that were read ahead: of the first
 // `have` in the text, those from `at` on are still to be looked at.
-#[derive(Drop)]
+#[derive(Clone, Copy)]
 pub struct Answers {
     pub fd: i32,
     pub line: u64,
@@ -14,7 +14,7 @@ pub struct Answers {
     pub have: usize,
 }
 
-#[derive(Drop)]
+#[derive(Clone, Copy)]
 pub enum Letter {
     Yes,
     No,
@@ -27,14 +27,14 @@ pub enum Letter {
 }
 
 // An answer (Yes, No), none (End, Failed) or a wrong letter (Other), and the answers after it.
-#[derive(Drop)]
+#[derive(Clone, Copy)]
 pub struct Next {
     pub letter: Letter,
     pub answers: Answers,
 }
 
 // A letter in the text, with its line, and the place after it.
-#[derive(Drop)]
+#[derive(Clone, Copy)]
 struct Found {
     letter: Letter,
     line: u64,

@@ -7,7 +7,7 @@ const PIECE_LIMIT: u64 = 65536;
 const LINE_LIMIT: u64 = 4096;
 
 // A piece's length, and the place of the next line.
-#[derive(Drop)]
+#[derive(Clone, Copy)]
 pub struct Cut {
     pub size: usize,
     pub next: usize,

@@ -18,7 +18,7 @@ pub const FAILED: i32 = -1;
 // No file was asked for.
 pub const ABSENT: i32 = -2;
 
-#[derive(Drop)]
+#[derive(Clone, Copy)]
 pub enum Loaded {
     Text(usize),
     Nothing,

@@ -2,7 +2,7 @@
 
 // How many bytes stand at the front of the room, and whether a read failed after them. Where none failed and they do not fill the
 // room, they are the file's last.
-#[derive(Drop)]
+#[derive(Clone, Copy)]
 pub struct Filled {
     pub count: usize,
     pub failed: bool,

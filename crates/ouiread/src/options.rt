@@ -3,7 +3,7 @@
 // How many arguments stand before the options, the program's name among them; the number of the argument that names the URI's file, 0 where
 // there is no --uri; and what else is asked for. It is not good where an option is unknown, or is there twice, or has a file after it that is
 // not its own, or where no argument names the URI's file.
-#[derive(Drop)]
+#[derive(Clone, Copy)]
 pub struct Asked {
     pub good: bool,
     pub files: usize,
@@ -12,7 +12,7 @@ pub struct Asked {
     pub places: bool,
 }
 
-#[derive(Drop)]
+#[derive(Clone, Copy)]
 enum Argument {
     File,
     Uri,

@@ -5,14 +5,14 @@ use number::Number;
 use ring::{KeyRecord, KeyRing};
 
 // The ring, or else the number of the line that is no record, or one too many.
-#[derive(Drop)]
+#[derive(Clone, Copy)]
 pub struct Keys {
     pub good: bool,
     pub line: u64,
     pub ring: KeyRing,
 }
 
-#[derive(Drop)]
+#[derive(Clone, Copy)]
 struct Record {
     good: bool,
     entry: KeyRecord,
@@ -23,7 +23,7 @@ const KEY_LENGTH: usize = 44;
 const LARGEST_TENTH: u64 = 1844674407370955161;
 
 // A second's text read.
-#[derive(Drop)]
+#[derive(Clone, Copy)]
 enum Moment {
     At(u64),
     Wrong,

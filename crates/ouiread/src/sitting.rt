@@ -9,7 +9,7 @@ use tally::Tally;
 
 // The reader, the answers that are left, the file for the body, whether the program goes no further, whether an
 // event's line was lost, and what was counted.
-#[derive(Drop)]
+#[derive(Clone, Copy)]
 pub struct Sitting {
     pub reader: Reader,
     pub answers: Answers,

@@ -10,7 +10,7 @@ use ring::KeyRing;
 use state::goes_on;
 
 // The sitting after a call, how many bytes of the piece are fed, and whether its rest is still to be fed.
-#[derive(Drop)]
+#[derive(Clone, Copy)]
 struct Fed {
     sitting: Sitting,
     taken: usize,

@@ -9,7 +9,7 @@ use classes::Class;
 use number::Number;
 
 // All is zero where the value is not good.
-#[derive(Drop)]
+#[derive(Clone, Copy)]
 pub struct Bsigs {
     pub good: bool,
     pub key: [u8; 32],

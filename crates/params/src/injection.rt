@@ -9,7 +9,7 @@ use classes::Class;
 use number::Number;
 
 // The first `id_length` bytes of `id` are the id. All is zero where the value is not good.
-#[derive(Drop)]
+#[derive(Clone, Copy)]
 pub struct Injection {
     pub good: bool,
     pub id_length: usize,

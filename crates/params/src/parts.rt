@@ -9,7 +9,7 @@ ghost use Rattle.classes.specs.Class.{class_of};
 use classes::Class;
 
 // The run from `start` up to `end`, and the place `next` after it. All is zero where the value has other parts there.
-#[derive(Drop)]
+#[derive(Clone, Copy)]
 pub struct Run {
     pub good: bool,
     pub start: usize,

@@ -11,7 +11,7 @@ use classes::Class;
 use number::Number;
 
 // The time `created` and the names lie in the value from their start up to their end. All is zero where the value is not good.
-#[derive(Drop)]
+#[derive(Clone, Copy)]
 pub struct Sig0 {
     pub good: bool,
     pub key: [u8; 32],

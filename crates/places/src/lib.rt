@@ -9,14 +9,14 @@ mod writing; // bytes written into a buffer
 pub use writing::put;
 
 // From `start` up to `end`, which is not part of it.
-#[derive(Drop)]
+#[derive(Clone, Copy)]
 pub struct Span {
     pub start: usize,
     pub end: usize,
 }
 
 // Whether a text is good, and how many of its first bytes some good text also has.
-#[derive(Drop)]
+#[derive(Clone, Copy)]
 pub struct Checked {
     pub good: bool,
     pub at: usize,

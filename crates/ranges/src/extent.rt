@@ -6,7 +6,7 @@ ghost use Rattle.ranges.specs.Extent.{range_in, ends_within};
 use blocks::ByteOffset;
 
 // All of them; or those from the first byte to the last, of so many in all.
-#[derive(Drop)]
+#[derive(Clone, Copy)]
 pub enum Extent {
     Whole,
     Part {

@@ -6,7 +6,7 @@ use classes::Class;
 use number::Number;
 
 // The number, and the place after its last digit. All is zero where the text or a number is not there.
-#[derive(Drop)]
+#[derive(Clone, Copy)]
 pub struct Numbered {
     pub good: bool,
     pub number: u64,

@@ -8,7 +8,7 @@ use crate::numbers;
 use blocks::ByteOffset;
 
 // Whether the value is good, and the part that it says. Where it is not good the extent is the whole body.
-#[derive(Drop)]
+#[derive(Clone, Copy)]
 pub struct RangeRead {
     pub good: bool,
     pub extent: Extent,

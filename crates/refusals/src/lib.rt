@@ -6,7 +6,7 @@ ghost use Rattle.stream.specs.Events.{has_place};
 ghost use Rattle.refusals.specs.Refusals.{plain as plainRefusal, refusal_of};
 
 // The number, and where the text went wrong, counted from the first byte of the section; 0 where the refusal has no such place.
-#[derive(Drop)]
+#[derive(Clone, Copy)]
 pub struct Refusal {
     pub number: u8,
     pub at: usize,

@@ -9,7 +9,7 @@ ghost use Rattle.ring.specs.Keys.{trusted_of, ring_of, found_of, ring_with, keys
 use limits::RING_LIMIT;
 
 // A key, and the first and the last second at which it is trusted.
-#[derive(Drop)]
+#[derive(Clone, Copy)]
 pub struct KeyRecord {
     pub key: [u8; 32],
     pub first: u64,
@@ -17,14 +17,14 @@ pub struct KeyRecord {
 }
 
 // The first `count` records are the ring's, all of them where the count is higher; the others say nothing.
-#[derive(Drop)]
+#[derive(Clone, Copy)]
 pub struct KeyRing {
     pub count: usize,
     pub records: [KeyRecord; RING_LIMIT],
 }
 
 // The number of a record, counted from 0.
-#[derive(Drop)]
+#[derive(Clone, Copy)]
 pub enum Found {
     At(usize),
     Nothing,

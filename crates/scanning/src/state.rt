@@ -4,7 +4,7 @@ ghost use Rattle.scanner.specs.Form.{or_else, when};
 ghost use Rattle.scanning.specs.States.{form_at, meant};
 
 // A flag says of a line whether field lines follow it, or nothing.
-#[derive(Drop)]
+#[derive(Clone, Copy)]
 pub(crate) enum State {
     // a chunk line, from its first byte; no more digits of its size than so many, and then the rest
     Line,
@@ -34,7 +34,7 @@ pub(crate) enum State {
     End,
 }
 
-#[derive(Drop)]
+#[derive(Clone, Copy)]
 pub(crate) enum Next {
     To(State),
     Nowhere,

@@ -21,7 +21,7 @@ mod table;
 
 // What is kept while bytes come: the hash value after the whole blocks, the bytes after them (count % 64 of rest), and how many came,
 // modulo 2^64.
-#[derive(Drop)]
+#[derive(Clone, Copy)]
 pub struct Midstate {
     pub words: [u32; 8],
     pub rest: [u8; 64],

@@ -3,7 +3,7 @@ ghost use Rattle.std.specs.Prelude.{◌≡◌};
 ghost use Rattle.state.specs.Configuration.{pending as pendingIn};
 
 // Where the reader stands in the stream. Counts are of bytes gathered; `size` is the size of the block under way.
-#[derive(Drop)]
+#[derive(Clone, Copy)]
 pub enum Phase {
     // In the head.
     Head(usize),

@@ -9,7 +9,7 @@ use ranges::Extent;
 use sha256::Midstate;
 
 // What the head fixes for the rest of the stream.
-#[derive(Drop)]
+#[derive(Clone, Copy)]
 pub struct Fixed {
     // The head's length once it was accepted, else 0.
     pub accepted: usize,
@@ -26,14 +26,14 @@ pub struct Fixed {
 }
 
 // The chain of blocks: the block under way, the hash of the one before it, and the body up to there as SHA-256 has it under way.
-#[derive(Drop)]
+#[derive(Clone, Copy)]
 pub struct Chain {
     pub number: BlockNumber,
     pub hash: [u8; 64],
     pub body: Midstate,
 }
 
-#[derive(Drop)]
+#[derive(Clone, Copy)]
 pub struct Reader {
     pub phase: Phase,
     pub fixed: Fixed,

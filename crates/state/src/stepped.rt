@@ -10,7 +10,7 @@ use refusals::Refusal;
 
 // What a byte leads to: the word, the signature that a question is about (else zeros), and the reader after it. With the
 // word More the reader goes on to the next byte.
-#[derive(Drop)]
+#[derive(Clone, Copy)]
 pub struct Stepped {
     pub word: Word,
     pub signature: [u8; 64],

@@ -6,7 +6,7 @@ use blocks::ByteOffset;
 use refusals::Refusal;
 
 // What a call says. Closed, Complete and Refused are final, but for the refusals 1 and 2, which answer a call and change nothing.
-#[derive(Drop)]
+#[derive(Clone, Copy)]
 pub enum Word {
     More,
     Question { length: usize, key: usize },

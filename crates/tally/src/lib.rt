@@ -7,7 +7,7 @@ ghost use Rattle.tally.specs.Counting.{no_counts, grown as grownBy, with_block, 
 use state::Word;
 
 // Blocks, the bytes released in them, streams closed, complete ones among them, and streams finally refused.
-#[derive(Drop)]
+#[derive(Clone, Copy)]
 pub struct Tally {
     pub blocks: u64,
     pub bytes: u64,
