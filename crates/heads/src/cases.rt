@@ -1,5 +1,5 @@
 // The cases of the input, each judged and told in a line.
-ghost use Rattle.std.specs.Prelude.{◌+◌, ◌<◌, ◌≤◌, length};
+ghost use Rattle.std.specs.Prelude.{◌<◌, ◌≤◌, IfOk, length};
 
 use crate::keys;
 use crate::lines::{say, say_count, say_number};
@@ -9,31 +9,34 @@ use number::Number;
 use ranges::Extent;
 use refusals::Refusal;
 use ring::KeyRing;
+use std::io;
 
-pub(crate) fn judge_all(input: &[u8]) {
+pub(crate) fn judge_all(rt: &impl Print, input: &[u8]) -> io::Result<()> {
     let ring = keys::three();
     let mut at = 0;
     while at < input.len() {
-        at = judge_next(input, at, ring);
+        at = judge_next(rt, input, at, ring)?;
     }
+    Ok(())
 }
 
 // The case that begins at a place; and where the next one begins.
-fn judge_next(input: &[u8], at: usize, ring: KeyRing) -> usize
+fn judge_next(rt: &impl Print, input: &[u8], at: usize, ring: KeyRing) -> io::Result<usize>
     requires { at < length input.now }
-    ensures { at < result }
+    ensures { IfOk result (λ next. at < next) }
 {
     let space = find(input, at, b' ');
     let start = find(input, at, b'\n') + 1;
     let end = start + size(places::part(input, space + 1, start - 1));
     let label = places::part(input, at, space);
     judge_case(
+        rt,
         label,
         places::part(input, start, end),
         ring,
         &mut [0; HEAD_LIMIT],
-    );
-    end
+    )?;
+    Ok(end)
 }
 
 // The first place from `from` on that has the byte, or else the last one.
@@ -42,14 +45,12 @@ fn find(s: &[u8], from: usize, byte: u8) -> usize
     ensures lower_bound { from ≤ result }
     ensures upper_bound { result < length s.now }
 {
-    let mut i = from;
-    while i < s.len() - 1 {
+    for i in from..s.len() - 1 {
         if s[i] == byte {
             return i;
         }
-        i += 1;
     }
-    i
+    s.len() - 1
 }
 
 // The length of a head, written with at most 5 digits.
@@ -66,15 +67,21 @@ fn size(digits: &[u8]) -> usize
 }
 
 // Whatever the head is, the same URI is asked for.
-fn judge_case(label: &[u8], head: &[u8], ring: KeyRing, question: &mut [u8; HEAD_LIMIT]) {
+fn judge_case(
+    rt: &impl Print,
+    label: &[u8],
+    head: &[u8],
+    ring: KeyRing,
+    question: &mut [u8; HEAD_LIMIT],
+) -> io::Result<()> {
     let judged = judging::judge(head, ring, b"https://example.com/hello", question);
     let id = judged.id;
     let signature = judged.signature;
     let answer = judged.answer;
-    say(label);
+    say(rt, label)?;
     match answer {
         HeadAnswer::Refused(why) => {
-            say_refused(why);
+            say_refused(rt, why)?;
         }
         HeadAnswer::Asks {
             status,
@@ -84,40 +91,41 @@ fn judge_case(label: &[u8], head: &[u8], ring: KeyRing, question: &mut [u8; HEAD
             id_length,
             length,
         } => {
-            say_count(b" asks ", length);
-            say_number(b" status ", status);
-            say_count(b" size ", size);
-            say_extent(extent);
-            say_count(b" key ", key);
-            say_part(b" id ", &id, id_length);
-            say_string(label, &signature, places::part(question, 0, length));
+            say_count(rt, b" asks ", length)?;
+            say_number(rt, b" status ", status)?;
+            say_count(rt, b" size ", size)?;
+            say_extent(rt, extent)?;
+            say_count(rt, b" key ", key)?;
+            say_part(rt, b" id ", &id, id_length)?;
+            say_string(rt, label, &signature, places::part(question, 0, length))?;
         }
     }
-    say(b"\n");
+    say(rt, b"\n")
 }
 
-fn say_refused(why: Refusal) {
-    say_number(b" refused ", wide(why.number));
+fn say_refused(rt: &impl Print, why: Refusal) -> io::Result<()> {
+    say_number(rt, b" refused ", wide(why.number))?;
     if refusals::has_place(why.number) {
-        say_count(b" at ", why.at);
+        say_count(rt, b" at ", why.at)?;
     }
+    Ok(())
 }
 
 // The bytes of the body that a part answer carries; of a whole one nothing is said.
-fn say_extent(e: Extent) {
+fn say_extent(rt: &impl Print, e: Extent) -> io::Result<()> {
     match e {
-        Extent::Whole => {}
+        Extent::Whole => Ok(()),
         Extent::Part { first, last, total } => {
-            say_number(b" part ", first.0);
-            say_number(b"-", last.0);
-            say_number(b"/", total);
+            say_number(rt, b" part ", first.0)?;
+            say_number(rt, b"-", last.0)?;
+            say_number(rt, b"/", total)
         }
     }
 }
 
-fn say_part(word: &[u8], bytes: &[u8; 64], length: usize) {
-    say(word);
-    say(places::part(bytes, 0, length));
+fn say_part(rt: &impl Print, word: &[u8], bytes: &[u8; 64], length: usize) -> io::Result<()> {
+    say(rt, word)?;
+    say(rt, places::part(bytes, 0, length))
 }
 
 fn wide(n: u8) -> u64 {
@@ -125,10 +133,16 @@ fn wide(n: u8) -> u64 {
 }
 
 // The signature and the signing string, below the line of a case whose label asks for them.
-fn say_string(label: &[u8], signature: &[u8; 64], string: &[u8]) {
+fn say_string(
+    rt: &impl Print,
+    label: &[u8],
+    signature: &[u8; 64],
+    string: &[u8],
+) -> io::Result<()> {
     if text::starts_with(label, 0, b"string-") {
-        say_part(b"\nsignature ", signature, 64);
-        say(b"\n");
-        say(string);
+        say_part(rt, b"\nsignature ", signature, 64)?;
+        say(rt, b"\n")?;
+        say(rt, string)?;
     }
+    Ok(())
 }

@@ -1,16 +1,16 @@
 // Writing a line, piece by piece.
-use libc::STDOUT_FILENO;
+use std::io;
 
-pub fn say(text: &[u8]) {
-    io::write_all(STDOUT_FILENO, text);
+pub fn say(rt: &impl Print, text: &[u8]) -> io::Result<()> {
+    rt.write_all(text)
 }
 
 // A word, and a number after it.
-pub fn say_number(word: &[u8], n: u64) {
-    say(word);
-    io::print_decimal(STDOUT_FILENO, n);
+pub fn say_number(rt: &impl Print, word: &[u8], n: u64) -> io::Result<()> {
+    say(rt, word)?;
+    rt.print(n)
 }
 
-pub fn say_count(word: &[u8], n: usize) {
-    say_number(word, n as u64);
+pub fn say_count(rt: &impl Print, word: &[u8], n: usize) -> io::Result<()> {
+    say_number(rt, word, n as u64)
 }

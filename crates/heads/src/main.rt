@@ -7,16 +7,18 @@ mod cases;
 mod keys;
 mod lines;
 
-fn read(input: &mut [u8]) {
-    let n = io::read_full(libc::STDIN_FILENO, input);
-    cases::judge_all(&input[..n]);
+use std::io;
+use std::io::Read;
+
+// So many bytes of input are read at most.
+const ROOM: u64 = 600000;
+
+fn read(rt: &HostRuntime) -> io::Result<()> {
+    let mut input = Vec::new(rt.alloc());
+    rt.stdin().take(ROOM).read_to_end(&mut input)?;
+    cases::judge_all(rt, &input)
 }
 
-// Lent as an array, the input needs no count of its bytes in the proof.
-fn read_array(input: &mut [u8; 600000]) {
-    read(input);
-}
-
-fn main() {
-    read_array(&mut [0; 600000]);
+fn main(rt: HostRuntime) -> io::Result<()> {
+    read(&rt)
 }

@@ -2,18 +2,21 @@
 use crate::files::ANSWERS;
 use crate::lines::following;
 use crate::{files, messages};
+use std::fs::File;
+use std::io::{Read, Seek};
 
-// The open file (with a negative number there is none), the line that is read, and the bytes that were read ahead: of the first
-// `have` in the text, those from `at` on are still to be looked at.
-#[derive(Clone, Copy)]
+// The open file, the line that is read, and the bytes that were read ahead: of the first `have` in the text, those from `at` on are still to
+// be looked at.
+#[derive(Drop)]
 pub struct Answers {
-    pub fd: i32,
+    file: File,
     pub line: u64,
-    pub text: [u8; 512],
-    pub at: usize,
-    pub have: usize,
+    text: [u8; 512],
+    at: usize,
+    have: usize,
 }
 
+// An answer (Yes, No), none (End, Failed) or a wrong letter (Other).
 #[derive(Clone, Copy)]
 pub enum Letter {
     Yes,
@@ -26,13 +29,6 @@ pub enum Letter {
     Failed,
 }
 
-// An answer (Yes, No), none (End, Failed) or a wrong letter (Other), and the answers after it.
-#[derive(Clone, Copy)]
-pub struct Next {
-    pub letter: Letter,
-    pub answers: Answers,
-}
-
 // A letter in the text, with its line, and the place after it.
 #[derive(Clone, Copy)]
 struct Found {
@@ -41,10 +37,11 @@ struct Found {
     next: usize,
 }
 
-fn starting(fd: i32, line: u64) -> Answers {
+// Before the first letter.
+fn starting(file: File) -> Answers {
     Answers {
-        fd,
-        line,
+        file,
+        line: 1,
         text: [0; 512],
         at: 0,
         have: 0,
@@ -106,69 +103,43 @@ fn find(text: &[u8], from: usize, line: u64, all: bool) -> Found {
 }
 
 // The next letter that is not passed over. A read that brings no byte, or fails, stands for a letter of its own.
-fn seek(a: Answers, all: bool) -> Next {
-    let fd = a.fd;
-    let mut text = a.text;
-    let mut at = a.at;
-    let mut have = a.have;
-    let mut line = a.line;
-    let mut turns = u64::MAX;
-    while turns > 0 {
-        turns -= 1;
-        let found = find(places::part(&text, 0, have), at, line, all);
-        let letter = found.letter;
-        line = found.line;
-        at = found.next;
-        if !is_passed(letter, all) {
-            return after(letter, fd, line, text, at, have);
+fn seek(a: &mut Answers, all: bool) -> Letter {
+    for _ in 0..u64::MAX {
+        let found = find(places::part(&a.text, 0, a.have), a.at, a.line, all);
+        a.line = found.line;
+        a.at = found.next;
+        if !is_passed(found.letter, all) {
+            return found.letter;
         }
-        let got = libc::read(fd, &mut text);
-        if got <= 0 {
-            return after(lack(got), fd, line, text, 0, 0);
+        a.at = 0;
+        a.have = 0;
+        match a.file.read(&mut a.text) {
+            Ok(0) => return Letter::End,
+            Ok(have) => a.have = have,
+            Err(_) => return Letter::Failed,
         }
-        have = io::count(got, &text);
-        at = 0;
-    }
-    after(Letter::End, fd, line, text, 0, 0)
-}
-
-fn after(letter: Letter, fd: i32, line: u64, text: [u8; 512], at: usize, have: usize) -> Next {
-    let answers = Answers {
-        fd,
-        line,
-        text,
-        at,
-        have,
-    };
-    Next { letter, answers }
-}
-
-// What a read that brings no byte stands for.
-fn lack(got: isize) -> Letter {
-    if got < 0 {
-        return Letter::Failed;
     }
     Letter::End
 }
 
-pub fn next_letter(a: Answers) -> Next {
+pub fn next_letter(a: &mut Answers) -> Letter {
     seek(a, false)
 }
 
 // Tells what is wrong with the answers, where a letter says that something is.
-pub fn tell(letter: Letter, line: u64) -> bool {
+pub fn tell(rt: &HostRuntime, letter: Letter, line: u64) -> bool {
     match letter {
         Letter::Yes => false,
         Letter::No => false,
         Letter::LineFeed => false,
         Letter::Space => false,
         Letter::Other => {
-            messages::complain(ANSWERS, line, b"an answer is y or n");
+            messages::complain(rt, ANSWERS, line, b"an answer is y or n");
             true
         }
         Letter::End => false,
         Letter::Failed => {
-            messages::unread(ANSWERS);
+            messages::unread(rt, ANSWERS);
             true
         }
     }
@@ -176,19 +147,16 @@ pub fn tell(letter: Letter, line: u64) -> bool {
 
 // Opens the answers. A file is gone over once beforehand, so that a wrong letter is told before any event; a pipe can be read only
 // once, and there it is told where it is met.
-pub fn open() -> Answers {
-    let fd = files::open(ANSWERS);
-    if fd < 0 {
-        return starting(fd, 0);
+pub fn open(rt: &HostRuntime) -> Option<Answers> {
+    let mut file = files::open(rt, ANSWERS)?;
+    if file.rewind().is_err() {
+        return Some(starting(file));
     }
-    if libc::lseek(fd, 0, libc::SEEK_SET) < 0 {
-        return starting(fd, 1);
+    let mut a = starting(file);
+    let letter = seek(&mut a, true);
+    if tell(rt, letter, a.line) {
+        return None;
     }
-    let n = seek(starting(fd, 1), true);
-    let letter = n.letter;
-    if tell(letter, n.answers.line) {
-        return starting(files::FAILED, 0);
-    }
-    libc::lseek(fd, 0, libc::SEEK_SET);
-    starting(fd, 1)
+    let _ = a.file.rewind();
+    Some(starting(a.file))
 }

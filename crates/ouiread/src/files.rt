@@ -1,7 +1,11 @@
 // The files, by the number of the argument that names each.
+use crate::arguments::{WORD_ROOM, word};
 use crate::filling::fill;
-use crate::messages::unread;
+use crate::messages::{unopened, unread};
 use crate::options;
+use std::fs::File;
+use std::io::{Error, ErrorKind, Read};
+use std::{fs, io};
 
 // STREAM RING ANSWERS [CUTS [BODY]]; the options say which argument names the URI's file.
 pub const STREAM: usize = 1;
@@ -14,9 +18,13 @@ pub const CUTS: usize = 4;
 
 pub const BODY: usize = 5;
 
-pub const FAILED: i32 = -1;
-// No file was asked for.
-pub const ABSENT: i32 = -2;
+// A file to be written. Where no argument names it, none was asked for.
+#[derive(Drop)]
+pub enum Created {
+    File(File),
+    Failed,
+    Absent,
+}
 
 #[derive(Clone, Copy)]
 pub enum Loaded {
@@ -24,48 +32,59 @@ pub enum Loaded {
     Nothing,
 }
 
-// Opens a file to be read and sees that it can be: a folder opens, and no byte can be read from it.
-pub fn open(i: usize) -> i32 {
-    let mut path = io::buffer();
-    let n = os::arg(i, &mut path);
-    let fd = os::open_read(&path[..n]);
-    if fd < 0 {
-        os::fail(&path[..n]);
-        return FAILED;
+// A name is text: no file is found by bytes that are not UTF-8.
+fn named(bytes: &[u8]) -> io::Result<&str> {
+    match str::from_utf8(bytes) {
+        Ok(name) => Ok(name),
+        Err(_) => Err(Error::from(ErrorKind::InvalidFilename)),
     }
-    if libc::read(fd, &mut [0; 0]) < 0 {
-        os::fail(&path[..n]);
-        return FAILED;
+}
+
+// A folder opens, and no byte can be read from it.
+fn try_open(rt: &HostRuntime, i: usize) -> io::Result<File> {
+    let mut file = fs::open(rt, named(word(rt, i, &mut [0; WORD_ROOM]))?)?;
+    file.read(&mut [0; 0])?;
+    Ok(file)
+}
+
+fn try_create(rt: &HostRuntime, i: usize) -> io::Result<File> {
+    fs::create(rt, named(word(rt, i, &mut [0; WORD_ROOM]))?)
+}
+
+// Opens a file to be read and sees that it can be. Where it cannot, that is told.
+pub fn open(rt: &HostRuntime, i: usize) -> Option<File> {
+    match try_open(rt, i) {
+        Ok(file) => Some(file),
+        Err(why) => {
+            unopened(rt, i, why);
+            None
+        }
     }
-    fd
 }
 
 // Reads a file's beginning, which is the whole of a file that is good.
-pub fn load(i: usize, text: &mut [u8]) -> Loaded {
-    let fd = open(i);
-    if fd < 0 {
+pub fn load(rt: &HostRuntime, i: usize, text: &mut [u8]) -> Loaded {
+    let Some(mut file) = open(rt, i) else {
         return Loaded::Nothing;
-    }
-    let filled = fill(fd, text);
-    libc::close(fd);
+    };
+    let filled = fill(&mut file, text);
     if filled.failed {
-        unread(i);
+        unread(rt, i);
         return Loaded::Nothing;
     }
     Loaded::Text(filled.count)
 }
 
 // Opens a file to be written, where the argument is there.
-pub fn create(i: usize) -> i32 {
-    if options::read().files <= i {
-        return ABSENT;
+pub fn create(rt: &HostRuntime, i: usize) -> Created {
+    if options::read(rt).files <= i {
+        return Created::Absent;
     }
-    let mut path = io::buffer();
-    let n = os::arg(i, &mut path);
-    let fd = os::open_overwrite(&path[..n]);
-    if fd < 0 {
-        os::fail(&path[..n]);
-        return FAILED;
+    match try_create(rt, i) {
+        Ok(file) => Created::File(file),
+        Err(why) => {
+            unopened(rt, i, why);
+            Created::Failed
+        }
     }
-    fd
 }

@@ -1,4 +1,6 @@
 // The next bytes of an open file. A read that fails is told from the file's end.
+use std::io;
+use std::io::Read;
 
 // How many bytes stand at the front of the room, and whether a read failed after them. Where none failed and they do not fill the
 // room, they are the file's last.
@@ -27,34 +29,31 @@ pub fn later(at: usize, more: usize, most: usize) -> usize {
     at + more
 }
 
-// One read into the room from a place on: how many bytes came, 0 at the end, and less where it failed.
-fn read_on(fd: i32, room: &mut [u8], at: usize) -> isize {
+// One read into the room from a place on: how many bytes came, 0 at the end.
+fn read_on(file: &mut impl Read, room: &mut [u8], at: usize) -> io::Result<usize> {
     if room.len() < at {
-        return 0;
+        return Ok(0);
     }
-    libc::read(fd, &mut room[at..])
+    file.read(&mut room[at..])
 }
 
 // Fills the room, as far as the file goes.
-pub fn fill(fd: i32, room: &mut [u8]) -> Filled {
+pub fn fill(file: &mut impl Read, room: &mut [u8]) -> Filled {
     let mut count = 0;
-    let mut turns = u64::MAX;
-    while turns > 0 {
-        turns -= 1;
+    for _ in 0..u64::MAX {
         if room.len() <= count {
             return whole(count);
         }
-        let got = read_on(fd, room, count);
-        if got < 0 {
+        let Ok(got) = read_on(file, room, count) else {
             return Filled {
                 count,
                 failed: true,
             };
-        }
+        };
         if got == 0 {
             return whole(count);
         }
-        count = later(count, io::count(got, room), room.len());
+        count = later(count, got, room.len());
     }
     whole(count)
 }

@@ -1,10 +1,11 @@
 // `ouiread STREAM RING ANSWERS [CUTS [BODY]] --uri FILE [--tally] [--where]` reads a signature stream in pieces and writes a line for each event;
 // the bytes of the URI's file are the URI that was asked for. Where it is asked for, a refusal's line says where the text went wrong, and a last
 // line has the tally. A head with another URI gives one line on standard error too, with both. A file that is missing or malformed gives one line
-// on standard error and no event. A program of this language has no exit status: the lines tell.
+// on standard error and no event. The exit status is 0 whatever comes: the lines tell.
 #![tactic(auto)]
 
 mod answers; // the letters y and n, read as they are needed
+mod arguments; // the program's arguments
 mod cuts; // the lengths of the pieces
 mod files; // the files by the number of their argument
 mod filling; // the next bytes of an open file
@@ -19,18 +20,19 @@ mod streaming; // the stream, piece by piece
 mod tallying; // the tally, counted in place
 
 use answers::Answers;
-use files::{ANSWERS, BODY, CUTS, Loaded, RING, STREAM};
+use files::{ANSWERS, BODY, CUTS, Created, Loaded, RING, STREAM};
 use limits::{BLOCK_LIMIT, HEAD_LIMIT};
 use ring::KeyRing;
 use sitting::Sitting;
 
 // Lent as arrays, the buffers need no count of their bytes in the proofs. A head's URI has fewer bytes than a head may have: a file that fills
 // the URI's buffer, or is longer, is no head's URI. Its beginning in the buffer is none either, and gives the same refusal.
-fn run(uri: &mut [u8; HEAD_LIMIT]) {
-    let Loaded::Text(n) = files::load(options::read().uri, uri) else {
+fn run(rt: &HostRuntime, uri: &mut [u8; HEAD_LIMIT]) {
+    let Loaded::Text(n) = files::load(rt, options::read(rt).uri, uri) else {
         return;
     };
     with_ring(
+        rt,
         &mut [0; HEAD_LIMIT],
         &mut [0; BLOCK_LIMIT],
         &mut [0; HEAD_LIMIT],
@@ -42,6 +44,7 @@ fn run(uri: &mut [u8; HEAD_LIMIT]) {
 
 // The ring's text is read into the buffer for pieces, which is free until the stream is opened.
 fn with_ring(
+    rt: &HostRuntime,
     head: &mut [u8; HEAD_LIMIT],
     block: &mut [u8; BLOCK_LIMIT],
     question: &mut [u8; HEAD_LIMIT],
@@ -49,12 +52,13 @@ fn with_ring(
     text: &mut [u8; 65536],
     uri: &[u8],
 ) {
-    let Loaded::Text(n) = files::load(RING, piece) else {
+    let Loaded::Text(n) = files::load(rt, RING, piece) else {
         return;
     };
     let keys = records::keys_of(places::part(piece, 0, n));
     if !keys.good {
         messages::complain(
+            rt,
             RING,
             keys.line,
             b"a record is a key in base64 and its first and last second, one space between; at most 16",
@@ -62,14 +66,14 @@ fn with_ring(
         return;
     }
     let ring = keys.ring;
-    let answers = answers::open();
-    if answers.fd < 0 {
+    let Some(answers) = answers::open(rt) else {
         return;
-    }
-    with_cuts(head, block, question, piece, text, ring, uri, answers);
+    };
+    with_cuts(rt, head, block, question, piece, text, ring, uri, answers);
 }
 
 fn with_cuts(
+    rt: &HostRuntime,
     head: &mut [u8; HEAD_LIMIT],
     block: &mut [u8; BLOCK_LIMIT],
     question: &mut [u8; HEAD_LIMIT],
@@ -79,16 +83,19 @@ fn with_cuts(
     uri: &[u8],
     answers: Answers,
 ) {
-    if options::read().files <= CUTS {
-        with_stream(head, block, question, piece, b"65536", ring, uri, answers);
+    if options::read(rt).files <= CUTS {
+        with_stream(
+            rt, head, block, question, piece, b"65536", ring, uri, answers,
+        );
         return;
     }
-    let Loaded::Text(n) = files::load(CUTS, text) else {
+    let Loaded::Text(n) = files::load(rt, CUTS, text) else {
         return;
     };
     let line = cuts::fault(places::part(text, 0, n));
     if line != 0 {
         messages::complain(
+            rt,
             CUTS,
             line,
             b"a piece length is a number from 0 to 65536; at most 4096, and not all 0",
@@ -96,6 +103,7 @@ fn with_cuts(
         return;
     }
     with_stream(
+        rt,
         head,
         block,
         question,
@@ -108,6 +116,7 @@ fn with_cuts(
 }
 
 fn with_stream(
+    rt: &HostRuntime,
     head: &mut [u8; HEAD_LIMIT],
     block: &mut [u8; BLOCK_LIMIT],
     question: &mut [u8; HEAD_LIMIT],
@@ -117,14 +126,14 @@ fn with_stream(
     uri: &[u8],
     answers: Answers,
 ) {
-    let stream = files::open(STREAM);
-    if stream < 0 {
+    let Some(mut stream) = files::open(rt, STREAM) else {
         return;
-    }
-    let body = files::create(BODY);
-    if body == files::FAILED {
-        return;
-    }
+    };
+    let body = match files::create(rt, BODY) {
+        Created::File(file) => Some(file),
+        Created::Failed => return,
+        Created::Absent => None,
+    };
     let s = Sitting {
         reader: reader::fresh(),
         answers,
@@ -133,28 +142,38 @@ fn with_stream(
         lost: false,
         tally: tally::zero(),
     };
-    let done = streaming::read_all(s, head, block, question, piece, cuts, ring, uri, stream);
+    let done = streaming::read_all(
+        rt,
+        s,
+        head,
+        block,
+        question,
+        piece,
+        cuts,
+        ring,
+        uri,
+        &mut stream,
+    );
     let after = done.reader;
-    other_show::tell(after, head, uri);
-    tell_tally(done);
+    other_show::tell(rt, after, head, uri);
+    tell_tally(rt, done);
 }
 
 // The last line, where it is asked for and no line before it was lost.
-fn tell_tally(s: Sitting) {
-    if s.lost | !options::read().tally {
+fn tell_tally(rt: &HostRuntime, s: Sitting) {
+    if s.lost | !options::read(rt).tally {
         return;
     }
-    let day = s.tally;
-    if !messages::tally(day) {
-        messages::lost();
+    if messages::tally(rt, s.tally).is_err() {
+        messages::lost(rt);
     }
 }
 
-fn main() {
-    let asked = options::read();
+fn main(rt: HostRuntime) {
+    let asked = options::read(&rt);
     if !asked.good | (asked.files <= ANSWERS) | (BODY + 1 < asked.files) {
-        messages::usage();
+        messages::usage(&rt);
         return;
     }
-    run(&mut [0; HEAD_LIMIT]);
+    run(&rt, &mut [0; HEAD_LIMIT]);
 }

@@ -1,4 +1,6 @@
 // The options, which stand after the files, in any order and each at most once: --uri with its file, which must be there, --tally and --where.
+use crate::arguments;
+use crate::arguments::WORD_ROOM;
 
 // How many arguments stand before the options, the program's name among them; the number of the argument that names the URI's file, 0 where
 // there is no --uri; and what else is asked for. It is not good where an option is unknown, or is there twice, or has a file after it that is
@@ -24,13 +26,11 @@ enum Argument {
 }
 
 // What argument i is, where `uri` is the number of the one that names the URI's file.
-fn kind_of(i: usize, uri: usize) -> Argument {
+fn kind_of(rt: &HostRuntime, i: usize, uri: usize) -> Argument {
     if i == uri {
         return Argument::UriFile;
     }
-    let mut word = io::buffer();
-    let n = os::arg(i, &mut word);
-    kind_by_name(&word[..n])
+    kind_by_name(arguments::word(rt, i, &mut [0; WORD_ROOM]))
 }
 
 fn kind_by_name(word: &[u8]) -> Argument {
@@ -77,8 +77,8 @@ fn with(a: Asked, kind: Argument, next: usize) -> Asked {
     b
 }
 
-pub fn read() -> Asked {
-    let count = os::arg_count();
+pub fn read(rt: &HostRuntime) -> Asked {
+    let count = arguments::count(rt);
     let mut all = Asked {
         good: true,
         files: 1,
@@ -86,11 +86,8 @@ pub fn read() -> Asked {
         tally: false,
         places: false,
     };
-    let mut i = 1;
-    while i < count {
-        let next = i + 1;
-        all = with(all, kind_of(i, all.uri), next);
-        i = next;
+    for i in 1..count {
+        all = with(all, kind_of(rt, i, all.uri), i + 1);
     }
     all.good = all.good & (1 <= all.uri) & (all.uri < count);
     all

@@ -1,7 +1,6 @@
 // What is said where the head's URI is another than the one that was asked for.
 use crate::filling::later;
 use crate::messages::err;
-use libc::STDERR_FILENO;
 use state::{Phase, Reader};
 
 // The refusal that says so.
@@ -24,14 +23,12 @@ fn uri_of(head: &[u8]) -> &[u8] {
 // How many bytes both begin with.
 fn alike(a: &[u8], b: &[u8]) -> usize {
     let most = places::least(a.len(), b.len());
-    let mut i = 0;
-    while i < most {
+    for i in 0..most {
         if places::byte_at(a, i) != places::byte_at(b, i) {
             return i;
         }
-        i += 1;
     }
-    i
+    most
 }
 
 // From which byte on both are shown, so that it is seen where they differ.
@@ -44,44 +41,41 @@ fn first_shown(asked: &[u8], got: &[u8]) -> usize {
 
 // A URI may have any bytes, and stands between backticks. A byte that is not printable, and a backtick, which would seem to end it, is written
 // by its number, and a backslash, with which such a number begins, twice.
-fn show_byte(b: u8) {
+fn show_byte(rt: &HostRuntime, b: u8) {
     if (b < 32) | (126 < b) | (b == b'`') {
-        err(b"\\x");
-        io::print_hex(STDERR_FILENO, b as u64, 2);
+        let _ = eprint!(rt; "\\x{b:02x}");
         return;
     }
     if b == b'\\' {
-        err(b"\\");
+        err(rt, b"\\");
     }
-    err(&[b]);
+    err(rt, &[b]);
 }
 
-fn show_bytes(bytes: &[u8]) {
-    let mut i = 0;
-    while i < bytes.len() {
-        show_byte(bytes[i]);
-        i += 1;
+fn show_bytes(rt: &HostRuntime, bytes: &[u8]) {
+    for b in bytes {
+        show_byte(rt, *b);
     }
 }
 
 // Dots, where something is left out.
-fn dots(left_out: bool) {
+fn dots(rt: &HostRuntime, left_out: bool) {
     if left_out {
-        err(b"...");
+        err(rt, b"...");
     }
 }
 
 // Words, and a URI after them, from a byte on.
-fn show(words: &[u8], uri: &[u8], start: usize) {
+fn show(rt: &HostRuntime, words: &[u8], uri: &[u8], start: usize) {
     let end = later(start, SHOWN, uri.len());
-    err(words);
-    dots(0 < start);
-    show_bytes(places::part(uri, start, end));
-    dots(end < uri.len());
+    err(rt, words);
+    dots(rt, 0 < start);
+    show_bytes(rt, places::part(uri, start, end));
+    dots(rt, end < uri.len());
 }
 
 // One line on standard error after the refusal, with the URI that was asked for and the head's, which still lies in its buffer.
-pub fn tell(r: Reader, head: &[u8], uri: &[u8]) {
+pub fn tell(rt: &HostRuntime, r: Reader, head: &[u8], uri: &[u8]) {
     let phase = r.phase;
     let Phase::Refused(number) = phase else {
         return;
@@ -91,7 +85,7 @@ pub fn tell(r: Reader, head: &[u8], uri: &[u8]) {
     }
     let got = uri_of(head);
     let start = first_shown(uri, got);
-    show(b"this is another show: asked for `", uri, start);
-    show(b"`, got `", got, start);
-    err(b"`\n");
+    show(rt, b"this is another show: asked for `", uri, start);
+    show(rt, b"`, got `", got, start);
+    err(rt, b"`\n");
 }

@@ -1,19 +1,22 @@
 // One reading of one stream: its events are written, and its questions answered.
 use crate::answers::{Answers, Letter};
-use crate::files::{ABSENT, BODY};
+use crate::files::BODY;
 use crate::tallying::counted;
 use crate::{answers, messages};
 use limits::{BLOCK_LIMIT, HEAD_LIMIT};
 use state::{Reader, Word};
+use std::fs::File;
+use std::io;
+use std::io::Write;
 use tally::Tally;
 
-// The reader, the answers that are left, the file for the body, whether the program goes no further, whether an
+// The reader, the answers that are left, the file for the body where one is asked for, whether the program goes no further, whether an
 // event's line was lost, and what was counted.
-#[derive(Clone, Copy)]
+#[derive(Drop)]
 pub struct Sitting {
     pub reader: Reader,
     pub answers: Answers,
-    pub body: i32,
+    pub body: Option<File>,
     pub stopped: bool,
     pub lost: bool,
     pub tally: Tally,
@@ -21,16 +24,9 @@ pub struct Sitting {
 
 // The sitting after a call that leaves the reader so.
 pub fn with_reader(s: Sitting, r: Reader) -> Sitting {
-    let answers = s.answers;
-    let tally = s.tally;
-    Sitting {
-        reader: r,
-        answers,
-        body: s.body,
-        stopped: s.stopped,
-        lost: s.lost,
-        tally,
-    }
+    let mut t = s;
+    t.reader = r;
+    t
 }
 
 fn stopped(s: Sitting) -> Sitting {
@@ -39,66 +35,52 @@ fn stopped(s: Sitting) -> Sitting {
     t
 }
 
-fn with_answers(s: Sitting, answers: Answers) -> Sitting {
-    let reader = s.reader;
-    let tally = s.tally;
-    Sitting {
-        reader,
-        answers,
-        body: s.body,
-        stopped: s.stopped,
-        lost: s.lost,
-        tally,
-    }
-}
-
 // The sitting with a call's word counted.
 fn tallied(s: Sitting, word: Word) -> Sitting {
-    let day = s.tally;
     let mut t = s;
-    t.tally = counted(day, word);
+    t.tally = counted(t.tally, word);
     t
 }
 
 // Where an event's line could not be written the program goes no further.
-fn written(s: Sitting, good: bool) -> Sitting {
-    if good {
+fn written(rt: &HostRuntime, s: Sitting, line: io::Result<()>) -> Sitting {
+    if line.is_ok() {
         return s;
     }
-    messages::lost();
+    messages::lost(rt);
     let mut t = stopped(s);
     t.lost = true;
     t
 }
 
 // A released block goes to the body's file, where one is asked for, and then its line is written.
-fn tell_block(s: Sitting, block: &[u8], offset: u64, length: usize) -> Sitting {
-    let body = s.body;
-    let released = s.reader.released;
-    if body == ABSENT {
-        return written(s, messages::block(offset, length));
+fn tell_block(rt: &HostRuntime, s: Sitting, block: &[u8], offset: u64, length: usize) -> Sitting {
+    let mut t = s;
+    let released = t.reader.released;
+    if let Some(body) = &mut t.body {
+        if body.write_all(reader::block_part(block, released)).is_err() {
+            messages::unwritten(rt, BODY);
+            return stopped(t);
+        }
     }
-    if !io::write_all(body, reader::block_part(block, released)) {
-        messages::unwritten(BODY);
-        return stopped(s);
-    }
-    written(s, messages::block(offset, length))
+    written(rt, t, messages::block(rt, offset, length))
 }
 
 // Every event but a question.
-fn tell_plain(s: Sitting, block: &[u8], word: Word) -> Sitting {
+fn tell_plain(rt: &HostRuntime, s: Sitting, block: &[u8], word: Word) -> Sitting {
     match word {
         Word::More => s,
-        Word::Question { length, key: _ } => written(s, messages::question(length)),
-        Word::Head(status) => written(s, messages::event(b"head ", status)),
-        Word::Block { offset, length } => tell_block(s, block, offset.0, length),
-        Word::Closed(total) => stopped(written(s, messages::event(b"closed ", total))),
-        Word::Complete(total) => stopped(written(s, messages::event(b"complete ", total))),
-        Word::Refused(why) => stopped(written(s, messages::refused(why))),
+        Word::Question { length, key: _ } => written(rt, s, messages::question(rt, length)),
+        Word::Head(status) => written(rt, s, messages::event(rt, b"head ", status)),
+        Word::Block { offset, length } => tell_block(rt, s, block, offset.0, length),
+        Word::Closed(total) => stopped(written(rt, s, messages::event(rt, b"closed ", total))),
+        Word::Complete(total) => stopped(written(rt, s, messages::event(rt, b"complete ", total))),
+        Word::Refused(why) => stopped(written(rt, s, messages::refused(rt, why))),
     }
 }
 
 fn answer(
+    rt: &HostRuntime,
     s: Sitting,
     head: &mut [u8; HEAD_LIMIT],
     block: &mut [u8; BLOCK_LIMIT],
@@ -109,35 +91,33 @@ fn answer(
     let o = reader::answer(r, head, block, question, good);
     let word = o.word;
     let after = o.reader;
-    tell_plain(tallied(with_reader(s, after), word), block, word)
+    tell_plain(rt, tallied(with_reader(s, after), word), block, word)
 }
 
 // Answers the open question. Without an answer the program goes no further.
 fn ask(
+    rt: &HostRuntime,
     s: Sitting,
     head: &mut [u8; HEAD_LIMIT],
     block: &mut [u8; BLOCK_LIMIT],
     question: &mut [u8; HEAD_LIMIT],
 ) -> Sitting {
-    let asked = s.answers;
-    let n = answers::next_letter(asked);
-    let letter = n.letter;
-    let after = n.answers;
-    let t = with_answers(s, after);
+    let mut t = s;
+    let letter = answers::next_letter(&mut t.answers);
     match letter {
-        Letter::Yes => answer(t, head, block, question, true),
-        Letter::No => answer(t, head, block, question, false),
+        Letter::Yes => answer(rt, t, head, block, question, true),
+        Letter::No => answer(rt, t, head, block, question, false),
         Letter::LineFeed => stopped(t),
         Letter::Space => stopped(t),
-        Letter::Other => without(t, letter),
+        Letter::Other => without(rt, t, letter),
         Letter::End => stopped(t),
-        Letter::Failed => without(t, letter),
+        Letter::Failed => without(rt, t, letter),
     }
 }
 
 // No answer is to be had, and why.
-fn without(s: Sitting, letter: Letter) -> Sitting {
-    answers::tell(letter, s.answers.line);
+fn without(rt: &HostRuntime, s: Sitting, letter: Letter) -> Sitting {
+    answers::tell(rt, letter, s.answers.line);
     stopped(s)
 }
 
@@ -158,15 +138,16 @@ fn is_question(w: Word) -> bool {
 
 // Writes an event and, where it is a question, answers it and writes what the answer gives.
 pub fn tell(
+    rt: &HostRuntime,
     s: Sitting,
     head: &mut [u8; HEAD_LIMIT],
     block: &mut [u8; BLOCK_LIMIT],
     question: &mut [u8; HEAD_LIMIT],
     word: Word,
 ) -> Sitting {
-    let t = tell_plain(tallied(s, word), block, word);
+    let t = tell_plain(rt, tallied(s, word), block, word);
     if is_question(word) & !t.stopped {
-        return ask(t, head, block, question);
+        return ask(rt, t, head, block, question);
     }
     t
 }

@@ -8,9 +8,10 @@ use limits::{BLOCK_LIMIT, HEAD_LIMIT};
 use reader::Outcome;
 use ring::KeyRing;
 use state::goes_on;
+use std::fs::File;
 
 // The sitting after a call, how many bytes of the piece are fed, and whether its rest is still to be fed.
-#[derive(Clone, Copy)]
+#[derive(Drop)]
 struct Fed {
     sitting: Sitting,
     taken: usize,
@@ -19,6 +20,7 @@ struct Fed {
 
 // Tells what a call gave, where it is an event.
 fn told(
+    rt: &HostRuntime,
     s: Sitting,
     head: &mut [u8; HEAD_LIMIT],
     block: &mut [u8; BLOCK_LIMIT],
@@ -28,7 +30,7 @@ fn told(
     let word = o.word;
     let after = o.reader;
     let taken = o.taken;
-    let sitting = tell(with_reader(s, after), head, block, question, word);
+    let sitting = tell(rt, with_reader(s, after), head, block, question, word);
     let again = !goes_on(word) & !sitting.stopped;
     Fed {
         sitting,
@@ -39,6 +41,7 @@ fn told(
 
 // Feeds the rest of a piece up to the first event, and tells it.
 fn feed_rest(
+    rt: &HostRuntime,
     s: Sitting,
     head: &mut [u8; HEAD_LIMIT],
     block: &mut [u8; BLOCK_LIMIT],
@@ -51,11 +54,12 @@ fn feed_rest(
     let records = ring.records;
     let count = ring.count;
     let o = lending::feed(r, head, block, question, records, count, uri, rest);
-    told(s, head, block, question, o)
+    told(rt, s, head, block, question, o)
 }
 
 // Feeds a piece, and what is left of it after each event.
 fn feed_piece(
+    rt: &HostRuntime,
     s: Sitting,
     head: &mut [u8; HEAD_LIMIT],
     block: &mut [u8; BLOCK_LIMIT],
@@ -66,11 +70,9 @@ fn feed_piece(
 ) -> Sitting {
     let mut sitting = s;
     let mut at = 0;
-    let mut turns = u64::MAX;
-    while turns > 0 {
-        turns -= 1;
+    for _ in 0..u64::MAX {
         let rest = places::part(piece, at, piece.len());
-        let fed = feed_rest(sitting, head, block, question, ring, uri, rest);
+        let fed = feed_rest(rt, sitting, head, block, question, ring, uri, rest);
         sitting = fed.sitting;
         if !fed.again {
             return sitting;
@@ -81,7 +83,7 @@ fn feed_piece(
 }
 
 // Fills the front of the room with the next bytes of the stream, fewer than asked at its end or where it can be read no further.
-fn read_piece(stream: i32, room: &mut [u8], size: usize) -> Filled {
+fn read_piece(stream: &mut File, room: &mut [u8], size: usize) -> Filled {
     if room.len() < size {
         return Filled {
             count: 0,
@@ -93,6 +95,7 @@ fn read_piece(stream: i32, room: &mut [u8], size: usize) -> Filled {
 
 // Tells the reader that no bytes will follow.
 fn finish(
+    rt: &HostRuntime,
     s: Sitting,
     head: &mut [u8; HEAD_LIMIT],
     block: &mut [u8; BLOCK_LIMIT],
@@ -102,12 +105,13 @@ fn finish(
     let o = reader::end(r, head, block, question);
     let word = o.word;
     let after = o.reader;
-    tell(with_reader(s, after), head, block, question, word)
+    tell(rt, with_reader(s, after), head, block, question, word)
 }
 
 // Reads the stream to its end, or until the program goes no further. The end is told only where it was seen: what came before a
 // read that fails is fed like the rest, and then the failure is told.
 pub fn read_all(
+    rt: &HostRuntime,
     s: Sitting,
     head: &mut [u8; HEAD_LIMIT],
     block: &mut [u8; BLOCK_LIMIT],
@@ -116,27 +120,25 @@ pub fn read_all(
     cuts: &[u8],
     ring: KeyRing,
     uri: &[u8],
-    stream: i32,
+    stream: &mut File,
 ) -> Sitting {
     let mut sitting = s;
     let mut place = 0;
-    let mut turns = u64::MAX;
-    while turns > 0 {
-        turns -= 1;
+    for _ in 0..u64::MAX {
         let cut = cut_at(cuts, place);
         place = cut.next;
         let filled = read_piece(stream, piece, cut.size);
         let bytes = places::part(piece, 0, filled.count);
-        sitting = feed_piece(sitting, head, block, question, ring, uri, bytes);
+        sitting = feed_piece(rt, sitting, head, block, question, ring, uri, bytes);
         if sitting.stopped {
             return sitting;
         }
         if filled.failed {
-            messages::unread(STREAM);
+            messages::unread(rt, STREAM);
             return sitting;
         }
         if filled.count < cut.size {
-            return finish(sitting, head, block, question);
+            return finish(rt, sitting, head, block, question);
         }
     }
     sitting

@@ -1,63 +1,68 @@
 // SHA-512: the messages of FIPS 180-4's examples, lengths around the end of a block, and the hash chain of the published example.
 use crate::lines::{say, say_hex, say_number};
+use std::io;
 
-fn say_digest(d: [u8; 64]) {
-    say_hex(&d);
-    say(b"\n");
+fn say_digest(rt: &impl Print, d: [u8; 64]) -> io::Result<()> {
+    say_hex(rt, &d)?;
+    say(rt, b"\n")
 }
 
-fn digest(name: &[u8], message: &[u8]) {
-    say(b"sha512 ");
-    say(name);
-    say(b" ");
+fn digest(rt: &impl Print, name: &[u8], message: &[u8]) -> io::Result<()> {
+    say(rt, b"sha512 ")?;
+    say(rt, name)?;
+    say(rt, b" ")?;
     let d = hash::sha512(message);
-    say_digest(d);
+    say_digest(rt, d)
 }
 
 // The first n of a run of the letter a.
-fn letters(run: &[u8], n: usize) {
+fn letters(rt: &impl Print, run: &[u8], n: usize) -> io::Result<()> {
     if run.len() < n {
-        return;
+        return Ok(());
     }
-    say(b"sha512 of ");
-    say_number(n);
-    say(b" times a ");
+    say(rt, b"sha512 of ")?;
+    say_number(rt, n)?;
+    say(rt, b" times a ")?;
     let d = hash::sha512(&run[..n]);
-    say_digest(d);
+    say_digest(rt, d)
 }
 
 // Lent as an array, the million letters need no count of them in the proof.
-fn million(run: &[u8; 1000000]) {
-    letters(run, 1000000);
+fn million(rt: &impl Print, run: &[u8; 1000000]) -> io::Result<()> {
+    letters(rt, run, 1000000)
 }
 
-pub fn messages() {
-    say(b"SHA-512, FIPS 180-4\n");
-    digest(b"\"\"", b"");
-    digest(b"\"abc\"", b"abc");
+pub fn messages(rt: &impl Print) -> io::Result<()> {
+    say(rt, b"SHA-512, FIPS 180-4\n")?;
+    digest(rt, b"\"\"", b"")?;
+    digest(rt, b"\"abc\"", b"abc")?;
     digest(
+        rt,
         b"of the 896 bit message",
         b"abcdefghbcdefghicdefghijdefghijkefghijklfghijklmghijklmnhijklmnoijklmnopjklmnopqklmnopqrlmnopqrsmnopqrstnopqrstu",
-    );
+    )?;
     let run = [b'a'; 240];
-    letters(&run, 111);
-    letters(&run, 112);
-    letters(&run, 127);
-    letters(&run, 128);
-    letters(&run, 239);
-    letters(&run, 240);
-    million(&[b'a'; 1000000]);
+    letters(rt, &run, 111)?;
+    letters(rt, &run, 112)?;
+    letters(rt, &run, 127)?;
+    letters(rt, &run, 128)?;
+    letters(rt, &run, 239)?;
+    letters(rt, &run, 240)?;
+    million(rt, &[b'a'; 1000000])
 }
 
-pub fn chain() {
-    say(b"\nHash chain of \"Hello world!\" in blocks of 5 bytes\n");
+pub fn chain(rt: &impl Print) -> io::Result<()> {
+    say(
+        rt,
+        b"\nHash chain of \"Hello world!\" in blocks of 5 bytes\n",
+    )?;
     let first = hash::sha512(b"Hello");
-    say(b"hash(0) ");
-    say_digest(first);
+    say(rt, b"hash(0) ")?;
+    say_digest(rt, first)?;
     let second = hash::sha512_after(first, b" worl");
-    say(b"hash(1) ");
-    say_digest(second);
+    say(rt, b"hash(1) ")?;
+    say_digest(rt, second)?;
     let third = hash::sha512_after(second, b"d!");
-    say(b"hash(2) ");
-    say_digest(third);
+    say(rt, b"hash(2) ")?;
+    say_digest(rt, third)
 }

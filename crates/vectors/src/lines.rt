@@ -1,14 +1,14 @@
 // Writing a line, piece by piece.
 ghost use Rattle.std.specs.Prelude.{◌<◌};
 
-use libc::STDOUT_FILENO;
+use std::io;
 
-pub(crate) fn say(text: &[u8]) {
-    io::write_all(STDOUT_FILENO, text);
+pub(crate) fn say(rt: &impl Print, text: &[u8]) -> io::Result<()> {
+    rt.write_all(text)
 }
 
-pub(crate) fn say_number(n: usize) {
-    io::print_decimal(STDOUT_FILENO, n as u64);
+pub(crate) fn say_number(rt: &impl Print, n: usize) -> io::Result<()> {
+    rt.print(n)
 }
 
 // The hexadecimal digit of a number below 16.
@@ -18,15 +18,14 @@ fn digit(n: u8) -> u8
     if n < 10 { b'0' + n } else { b'a' + (n - 10) }
 }
 
-fn say_byte(b: u8) {
-    say(&[digit(b / 16), digit(b % 16)]);
+fn say_byte(rt: &impl Print, b: u8) -> io::Result<()> {
+    say(rt, &[digit(b / 16), digit(b % 16)])
 }
 
 // The bytes in hexadecimal.
-pub fn say_hex(bytes: &[u8]) {
-    let mut i = 0;
-    while i < bytes.len() {
-        say_byte(bytes[i]);
-        i += 1;
+pub fn say_hex(rt: &impl Print, bytes: &[u8]) -> io::Result<()> {
+    for b in bytes {
+        say_byte(rt, *b)?;
     }
+    Ok(())
 }

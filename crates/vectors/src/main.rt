@@ -7,13 +7,15 @@ mod lines;
 mod parts;
 mod texts;
 
-fn main() {
-    digests::messages();
-    digests::chain();
-    parts::messages();
-    parts::in_parts();
-    texts::short_texts();
-    texts::keys();
-    texts::signatures();
-    texts::stops();
+use std::io;
+
+fn main(rt: HostRuntime) -> io::Result<()> {
+    digests::messages(&rt)?;
+    digests::chain(&rt)?;
+    parts::messages(&rt)?;
+    parts::in_parts(&rt)?;
+    texts::short_texts(&rt)?;
+    texts::keys(&rt)?;
+    texts::signatures(&rt)?;
+    texts::stops(&rt)
 }
