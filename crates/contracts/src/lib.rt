@@ -1,5 +1,5 @@
-// The reader's calls, with contracts in the words of the claims: a run starts from `freshReader`, `called` is one call of it, and
-// `blockSeen`, `valueSeen` and `countSeen` are what the claims say a caller sees. Each body is the call itself.
+// The reader's calls, with contracts in the words of the claims: a run starts from `fresh_reader`, `called` is one call of it, and
+// `block_seen`, `value_seen` and `count_seen` are what the claims say a caller sees. Each body is the call itself.
 #![tactic(auto)]
 
 ghost use Rattle.std.specs.Prelude.{List, ◌≡◌, ℕ};

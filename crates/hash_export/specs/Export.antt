@@ -1,5 +1,5 @@
 -- What the exported functions answer. Assumes nothing.
-use Rattle.std.specs.Prelude.{Bool, true, false, ◌&&◌, List, ◌++◌, ℕ, eqb, length}
+use Rattle.std.specs.Prelude.{Bool, true, false, List, ◌++◌, ℕ, eqb, length}
 use Rattle.octets.specs.Choice.{pick}
 use Rattle.hash.specs.Sha512.{sha512}
 use Rattle.sha256.specs.Sha256.{sha256}

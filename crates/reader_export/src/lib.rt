@@ -17,8 +17,7 @@ use results::{are_long, finish};
 const SHORT: u8 = 255;
 
 // A reader before its stream. 0, or 255 where the buffer is too short: it is then left as it is.
-#[unsafe(no_mangle)]
-pub extern "C" fn ouinet_reader_fresh(state: &mut [u8]) -> u8
+pub fn ouinet_reader_fresh(state: &mut [u8]) -> u8
     ensures whole { begun result state.new ≡ begun_in state.old }
     ensures carried { state_size ≤ length state.old → decoded state.new ≡ fresh_reader }
 {
@@ -31,8 +30,7 @@ pub extern "C" fn ouinet_reader_fresh(state: &mut [u8]) -> u8
 
 // A piece of the stream. In this contract and the two after it `whole` says the word and every byte that is lent, and `carried` that
 // the state which is then read is the one that the reader's own call gives.
-#[unsafe(no_mangle)]
-pub extern "C" fn ouinet_reader_feed(
+pub fn ouinet_reader_feed(
     state: &mut [u8],
     head: &mut [u8],
     block: &mut [u8],
@@ -61,8 +59,7 @@ pub extern "C" fn ouinet_reader_feed(
 }
 
 // Whether the signature that was asked about is good: 0 is no, anything else yes.
-#[unsafe(no_mangle)]
-pub extern "C" fn ouinet_reader_answer(
+pub fn ouinet_reader_answer(
     state: &mut [u8],
     head: &mut [u8],
     block: &mut [u8],
@@ -81,8 +78,7 @@ pub extern "C" fn ouinet_reader_answer(
 }
 
 // The end of the stream.
-#[unsafe(no_mangle)]
-pub extern "C" fn ouinet_reader_end(
+pub fn ouinet_reader_end(
     state: &mut [u8],
     head: &mut [u8],
     block: &mut [u8],
@@ -100,8 +96,7 @@ pub extern "C" fn ouinet_reader_end(
 }
 
 // How many bytes at the front of the block buffer are handed out.
-#[unsafe(no_mangle)]
-pub extern "C" fn ouinet_reader_block(state: &[u8], block: &[u8]) -> usize
+pub fn ouinet_reader_block(state: &[u8], block: &[u8]) -> usize
     ensures { result ≡ length (block_in state.now block.now) }
 {
     if state.len() < STATE_SIZE {
@@ -114,13 +109,7 @@ pub extern "C" fn ouinet_reader_block(state: &[u8], block: &[u8]) -> usize
 }
 
 // The length of a signed field's value, which is copied to the front of the buffer where it fits whole.
-#[unsafe(no_mangle)]
-pub extern "C" fn ouinet_reader_value(
-    state: &[u8],
-    head: &[u8],
-    name: &[u8],
-    value: &mut [u8],
-) -> usize
+pub fn ouinet_reader_value(state: &[u8], head: &[u8], name: &[u8], value: &mut [u8]) -> usize
     ensures { placing result value.new ≡ value_in state.now head.now name.now value.old }
 {
     if state.len() < STATE_SIZE {
@@ -134,8 +123,7 @@ pub extern "C" fn ouinet_reader_value(
 }
 
 // How many lines of the accepted head have that signed field.
-#[unsafe(no_mangle)]
-pub extern "C" fn ouinet_reader_value_count(state: &[u8], head: &[u8], name: &[u8]) -> usize
+pub fn ouinet_reader_value_count(state: &[u8], head: &[u8], name: &[u8]) -> usize
     ensures { result ≡ count_in state.now head.now name.now }
 {
     if state.len() < STATE_SIZE {

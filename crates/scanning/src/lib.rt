@@ -7,7 +7,7 @@ mod chunk_steps; // a byte of a chunk line
 mod field_steps; // a byte of a head or a trailer
 mod scan; // the loop
 mod texts; // each kind of text
-mod sections; // where a section that is refused went wrong
+mod section_places; // where a section that is refused went wrong
 
-pub use sections::{head_place, line_place, trailer_place};
+pub use section_places::{head_place, line_place, trailer_place};
 pub use texts::{chunk_line, data_end, field_line, head, name, status_line, trailer};

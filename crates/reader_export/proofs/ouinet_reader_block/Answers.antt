@@ -1,0 +1,12 @@
+-- A short buffer, and one with room. Assumes nothing.
+use borrow.Author.Tests.{le-leb, lt-leb}
+use Rattle.reader_export.specs.Export.{block_in}
+use Rattle.reader_export.proofs.ouinet_reader_block.Goals as goal
+
+pub returns-then-state-lt-STATE_SIZE : goal.returns-then-state-lt-STATE_SIZE
+unfolding block_in
+returns-then-state-lt-STATE_SIZE c = rw (lt-leb _ _ c.if-state-lt-STATE_SIZE.true)
+
+pub returns : goal.returns
+unfolding block_in
+returns c = rw (le-leb _ _ c.if-state-lt-STATE_SIZE.false, c.block_part-part.ensures, c.load-r.ensures)
