@@ -9,7 +9,6 @@ use lib.Dec.{eqb, leb}
 use lib.ListN.{length, take, set, get_or}
 use Rattle.octets.specs.Choice.{pick}
 use Rattle.chunk.specs.Judging.{line_judged, unless_fault, good_line}
-use Rattle.sections.specs.Calls.{answer}
 use Rattle.refusals.specs.declared.Refusal.{Refusal}
 use Rattle.stream.specs.Blocks.{is_whole_line, line_fault, chunk_size}
 use Rattle.stream.specs.Bytes.{same}

@@ -5,7 +5,7 @@ use mathlib.Core.List.{List}
 use Prim.Native.Nat.{ℕ, ◌≤◌}
 use borrow.Author.Tests.{le-leb}
 use lib.ListN.{length, take}
-use Rattle.sections.specs.Reading.{question, Grant}
+use Rattle.sections.specs.Reading.{Grant}
 use Rattle.sections.specs.Calls.{is_of_call, Request, Reply, misused, Out}
 use Rattle.sections.specs.Machine.{running, asked, finished, Turn, declined}
 use Rattle.stream.specs.Events.{Question, Release, LastWord}

@@ -11,7 +11,7 @@ use lib.Seq.{take-append_seam}
 use Rattle.octets.specs.Choice.{pick}
 use Rattle.sections.specs.Reading.{question}
 use Rattle.sections.specs.Calls.{event}
-use Rattle.sections.specs.Machine.{asked, ruling, gathered, step}
+use Rattle.sections.specs.Machine.{ruling, gathered, step}
 use Rattle.chunk.specs.Judging.{line_judged, unless_fault, good_line, carried_by}
 use Rattle.blocks.specs.Place.{offset_at}
 use Rattle.blocks.specs.Writing.{at_front, message_written}
@@ -22,7 +22,7 @@ use Rattle.stream.specs.Blocks.{is_whole_line, carries_signature, chunk_size, li
 use Rattle.stream.specs.Limits.{line_limit, body_limit}
 use Rattle.stream.specs.Lines.{Field}
 use Rattle.stream.specs.Places.{line_place}
-use Rattle.stream.specs.Range.{Range, first_byte}
+use Rattle.stream.specs.Range.{Range}
 use Rattle.stream.specs.Stream.{Show, range, Past, is_whole, unless_broken, judge, block_offset, body_with, released_with, block_question, accept_block, judge_next_line, rules}
 use Rattle.stream.specs.Stream as C
 use Rattle.stream.specs.Terms.{Terms}

@@ -1,5 +1,5 @@
 -- A byte of the trailer, which leads to the end of the show. Assumes nothing.
-use mathlib.Core.Path.{◌≡◌, refl, ap}
+use mathlib.Core.Path.{◌≡◌, refl}
 use mathlib.Core.Bool.{Bool, true, false}
 use mathlib.Core.List.{List, [], ◌∷◌, ◌++◌}
 use Prim.Native.Nat.{ℕ, zero, suc, ◌+◌, ◌≤◌, ◌<◌}
@@ -22,18 +22,16 @@ use Rattle.sha256.specs.Sha256.{sha256}
 use Rattle.sha256.proofs.Parts.{summed_is}
 use Rattle.stream.specs.Ends.{all_fields, is_checked, ends_in, end_signature, end_fault, end_string}
 use Rattle.stream.specs.Events.{closed, complete, refused, place_of, has_place}
-use Rattle.stream.specs.Head.{Head, head_of, text_rules}
 use Rattle.stream.specs.Limits.{head_limit}
 use Rattle.stream.specs.Lines.{Field}
 use Rattle.stream.specs.Places.{trailer_place}
-use Rattle.stream.specs.Rule.{first_broken}
 use Rattle.stream.specs.Stream.{Show, range, Past, is_whole, unless_broken, judge, end_question, judge_end, judge_trailer, rules}
 use Rattle.stream.specs.Stream as C
 use Rattle.stream.specs.Terms.{Terms}
 use Rattle.stream.specs.Trailer.{is_whole_trailer, is_trailer}
 use Rattle.stream.proofs.EndString.{short_ends, end_fits}
 use Rattle.stream.proofs.Sound.{Sound}
-use Rattle.state.specs.Configuration.{Configuration, configuration, in_phase, on, moved, refuse}
+use Rattle.state.specs.Configuration.{Configuration, configuration, in_phase, on, moved}
 use Rattle.trailer_steps.specs.Trailer.{trailer_answered, judged_at, trailer_gathered, push_trailer}
 use Rattle.state.specs.declared.phase.Phase.{Phase}
 use Rattle.state.specs.declared.phase.Phase.TheVariants as P

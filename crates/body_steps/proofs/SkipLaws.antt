@@ -1,19 +1,16 @@
 -- Laws on the code of a run of data bytes: its count, and the phases in which there is none. Assumes nothing.
-use denote.Enum.Declared.{tag_of}
-use mathlib.Core.List.{List, [], ◌∷◌}
+use mathlib.Core.List.{List}
 use mathlib.Core.Path.{◌≡◌, refl, sym, ap, ◌∙◌}
 use native.Mathlib.Omega.{arith}
 use native.Mathlib.Nat.{add-sub_cancel_left}
 use Prim.Native.Nat.{ℕ, ◌+◌, ◌-◌, ◌≤◌, min}
 use lib.ListN.{length, take, length-take}
 use lib.Seq.{paste, take-take}
-use types.Run.{OneOf, miss}
 use Rattle.places.specs.Writing.{placed, wrote}
 use Rattle.places.proofs.WritingLaws.{next_is, bytes_are}
 use Rattle.state.specs.Configuration.{in_phase}
 use Rattle.body_steps.specs.Skip.{room, Skip, skip_to, skipped_data, skipped_at}
 use Rattle.state.specs.declared.phase.Phase.{Phase}
-use Rattle.state.specs.contracts.phase.Phase.{the_type}
 use Rattle.state.specs.declared.phase.Phase.TheVariants as P
 use Rattle.state.specs.declared.reader.Reader.{Reader}
 
@@ -46,12 +43,12 @@ module _ (r : Reader) (b xs : List ℕ) where
   skipped_at_lem p p' s e f = f ∙ ap (λ (p : Phase). skipped_at p r b xs) (sym e)
 
   -- all phases but the fourth, by their numbers
-  pub no_data : (p : Phase) → OneOf (0 ∷ 1 ∷ 2 ∷ 4 ∷ 5 ∷ 6 ∷ 7 ∷ 8 ∷ 9 ∷ 10 ∷ 11 ∷ []) (tag_of the_type p) → skip_to r 0 b ≡ skipped_at p r b xs
+  pub no_data : (p : Phase) → ((have size : ℕ) → p ≡ P.Data have size → ⊥) → skip_to r 0 b ≡ skipped_at p r b xs
   unfolding skipped_at
   no_data (P.Head n) h = refl
   no_data (P.HeadAsked n) h = refl
   no_data (P.FirstLine n) h = refl
-  no_data (P.Data have size) h = absurd (miss (0 ∷ 1 ∷ 2 ∷ 4 ∷ 5 ∷ 6 ∷ 7 ∷ 8 ∷ 9 ∷ 10 ∷ 11 ∷ []) 3 tt h)
+  no_data (P.Data have size) h = absurd (h have size refl)
   no_data (P.DataEnd have size) h = refl
   no_data (P.NextLine have size) h = refl
   no_data (P.BlockAsked size next) h = refl

@@ -13,7 +13,6 @@ use Rattle.packing.specs.Keys.{keys_in}
 use Rattle.layout.specs.State.{state_size}
 use Rattle.results.specs.Written.{Answer}
 use Rattle.reader_export.specs.Export.{short}
-use Rattle.reader_export.specs.Loan.{exported}
 use Rattle.reader_export.proofs.LoanLaws.{exported_short}
 use Rattle.agreement.specs.Run.{observed, run_call, run_from, run, Invocation}
 use Rattle.buffers.specs.Left.{buffers_in, left_by, left_from, left_after}
@@ -85,7 +84,7 @@ on_bytes ring uri x ks told h e c =
           sym (run_views keys uri (invocations ks) (held_in x))
           ∙ ap (λ (r : Reader). run_from keys uri (first_parts (configuration r x.head x.block x.question)) (invocations ks)) e
           ∙ (demand_3 keys uri (take head_limit x.head) (take block_limit x.block) (take head_limit x.question) (invocations ks)).each_call;
-      in-buffers =
+      in_buffers =
           ap buffers_in (all_held ring uri h c)
           ∙ ap (λ (r : Reader). buffers_in (left_from keys uri (first_parts (configuration r x.head x.block x.question)) (invocations ks))) e;
       others = all_untouched ring uri h c;

@@ -19,7 +19,6 @@ use Rattle.stream.specs.Limits.{line_limit}
 use Rattle.stream.specs.Lines.{crlf}
 use Rattle.stream.specs.Terms.{Terms}
 use Rattle.stream.specs.Trailer.{is_whole_trailer}
-use Rattle.judging.specs.Judgement.{asked}
 use Rattle.state.specs.Configuration.{Configuration, Next}
 use Rattle.state.specs.declared.phase.Phase.{Phase}
 use Rattle.state.specs.declared.phase.Phase.TheVariants as P

@@ -57,14 +57,14 @@ module _ (text name : List ℕ) (P : List (List ℕ) → Type 0) (nothing : P []
   unfolding fields_out text_rules values_of
   values_out = by (eqb (first_broken (text_rules text (head_of text))) 0) refl
     where
-      if-listed : AllHold (text_rules text (head_of text)) → (t : Bool) → P (pick t (values_of name (head_of text).fields) [])
-      if-listed rules true = all rules
-      if-listed rules false = nothing
+      if_listed : AllHold (text_rules text (head_of text)) → (t : Bool) → P (pick t (values_of name (head_of text).fields) [])
+      if_listed rules true = all rules
+      if_listed rules false = nothing
 
       by : (t : Bool) → eqb (first_broken (text_rules text (head_of text))) 0 ≡ t → P (values_of name (pick t (signed_of (head_of text)) []))
       by true e =
           let rules = rules_hold (text_rules text (head_of text)) refl (eqb-true (first_broken (text_rules text (head_of text))) 0 e) in
-          rw (signed_of_lem (head_of text) name (names_good rules)) (if-listed rules (among name (listed_fields (listed_names (head_of text)))))
+          rw (signed_of_lem (head_of text) name (names_good rules)) (if_listed rules (among name (listed_fields (listed_names (head_of text)))))
       by false e = nothing
 
 -- ---- the room

@@ -130,7 +130,7 @@ module _ (ring uri : List ℕ) (x : Held) (ks : List ExportedCall) where
   pub record SameCalls (told : List Answer) : Type 0 where
     pub exported : shown x ks told ≡ views (held_in x) ks (made keys uri (held_in x) (invocations ks))
     pub plain : map observed (made keys uri (held_in x) (invocations ks)) ≡ plain_trace (terms_of keys uri) (plain_calls keys head_part block_part question_part (invocations ks))
-    pub in-buffers : buffers_in (held_in (held_after x ks told)) ≡ left_after keys uri head_part block_part question_part (invocations ks)
+    pub in_buffers : buffers_in (held_in (held_after x ks told)) ≡ left_after keys uri head_part block_part question_part (invocations ks)
     pub others : OthersUntouched ks told
 
 -- ON BYTES: so it is for every list of exported calls that are answered as their contracts say, from a state that `ouinet_reader_fresh` has

@@ -1,12 +1,10 @@
 -- Laws on what a call gives: its last step, the phase that the code has taken apart, and the number of the block after. Assumes
 -- nothing.
-use denote.Enum.Declared.{tag_of}
 use mathlib.Core.Bool.{Bool, true, false}
-use mathlib.Core.List.{List, [], ◌∷◌}
+use mathlib.Core.List.{List}
 use mathlib.Core.Path.{◌≡◌, refl, sym, ap, ◌∙◌}
 use native.Mathlib.Omega.{arith}
 use Prim.Native.Nat.{ℕ, ◌+◌, ◌≤◌, min}
-use types.Run.{OneOf, miss}
 use Rattle.blocks.specs.Place.{largest}
 use Rattle.blocks.specs.declared.offsets.BlockNumber.{BlockNumber}
 use Rattle.octets.specs.Choice.{pick}
@@ -16,7 +14,6 @@ use Rattle.state.specs.declared.phase.Phase.{Phase}
 use Rattle.state.specs.declared.phase.Phase.TheVariants as P
 use Rattle.state.specs.declared.stepped.Stepped.{Stepped}
 use Rattle.state.specs.declared.word.Word.{Word}
-use Rattle.state.specs.contracts.phase.Phase.{the_type}
 use Rattle.calls.specs.Answer.{answer_at, following}
 use Rattle.calls.specs.Response.{Response, response, given, unchanged}
 
@@ -48,18 +45,18 @@ refused_call s h b q why count d e =
 pub answer_at_lem : (p p' : Phase) (d : Configuration) (good : Bool) (c : Response) → p ≡ p' → c ≡ answer_at p' d good → c ≡ answer_at p d good
 answer_at_lem p p' d good c e f = f ∙ ap (λ (p : Phase). answer_at p d good) (sym e)
 
--- all phases but the three in which a question is open, by their numbers
-pub no_question : (p : Phase) (d : Configuration) (good : Bool) → OneOf (0 ∷ 2 ∷ 3 ∷ 4 ∷ 5 ∷ 6 ∷ 7 ∷ 8 ∷ 9 ∷ 10 ∷ 11 ∷ []) (tag_of the_type p) → OneOf (0 ∷ 1 ∷ 2 ∷ 3 ∷ 4 ∷ 5 ∷ 7 ∷ 8 ∷ 9 ∷ 10 ∷ 11 ∷ []) (tag_of the_type p) → OneOf (0 ∷ 1 ∷ 2 ∷ 3 ∷ 4 ∷ 5 ∷ 6 ∷ 7 ∷ 9 ∷ 10 ∷ 11 ∷ []) (tag_of the_type p) → unchanged 1 d ≡ answer_at p d good
+-- all phases but the three in which a question is open
+pub no_question : (p : Phase) (d : Configuration) (good : Bool) → ((n : ℕ) → p ≡ P.HeadAsked n → ⊥) → ((size next : ℕ) → p ≡ P.BlockAsked size next → ⊥) → ((have total : ℕ) → p ≡ P.EndAsked have total → ⊥) → unchanged 1 d ≡ answer_at p d good
 unfolding answer_at
 no_question (P.Head n) d good h k l = refl
-no_question (P.HeadAsked n) d good h k l = absurd (miss (0 ∷ 2 ∷ 3 ∷ 4 ∷ 5 ∷ 6 ∷ 7 ∷ 8 ∷ 9 ∷ 10 ∷ 11 ∷ []) 1 tt h)
+no_question (P.HeadAsked n) d good h k l = absurd (h n refl)
 no_question (P.FirstLine n) d good h k l = refl
 no_question (P.Data have size) d good h k l = refl
 no_question (P.DataEnd have size) d good h k l = refl
 no_question (P.NextLine have size) d good h k l = refl
-no_question (P.BlockAsked size next) d good h k l = absurd (miss (0 ∷ 1 ∷ 2 ∷ 3 ∷ 4 ∷ 5 ∷ 7 ∷ 8 ∷ 9 ∷ 10 ∷ 11 ∷ []) 6 tt k)
+no_question (P.BlockAsked size next) d good h k l = absurd (k size next refl)
 no_question (P.Trailer have total) d good h k l = refl
-no_question (P.EndAsked have total) d good h k l = absurd (miss (0 ∷ 1 ∷ 2 ∷ 3 ∷ 4 ∷ 5 ∷ 6 ∷ 7 ∷ 9 ∷ 10 ∷ 11 ∷ []) 8 tt l)
+no_question (P.EndAsked have total) d good h k l = absurd (l have total refl)
 no_question (P.Closed total) d good h k l = refl
 no_question (P.Complete total) d good h k l = refl
 no_question (P.Refused n) d good h k l = refl

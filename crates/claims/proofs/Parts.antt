@@ -27,7 +27,7 @@ module _ (keys : KeyRing) (uri h b q : List ℕ) (ks : List Invocation) where
       record {
         all_events = o.all_events;
         part_body = o.whole_body;
-        in-the-show = rw (← t.run, body_both t.earlier (p.chunks ++ t.later), body_both p.chunks t.later);
+        in_the_show = rw (← t.run, body_both t.earlier (p.chunks ++ t.later), body_both p.chunks t.later);
         closes = rw o.all_events (stands_told _ (last (closed _)) _ (record { before = w.others; after = []; joined = w.closes }));
         same_blocks = w.blocks;
       }

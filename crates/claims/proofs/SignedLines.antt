@@ -34,7 +34,7 @@ module _ (head : Head) (good : is_name_list head.fields (listed_names head) ≡ 
       let v : value_of name (signed_of head) ≡ value_of name fs = first_value name (signed_of head) ∙ ap (nth 0) (all_of e) ∙ sym (first_value name fs) in
       let a : value_of name (signed_of head) ∷ others ≡ values_of name fs =
       ap (λ (x : List ℕ). x ∷ others) v ∙ some_values name fs (listed_there name fs ns (listed fs (listed_names head) good).present e) in
-      record { others = others; all = a; counted = ap length (a ∙ sym (all_of e)); in-message = rw a (line_signed head name e) }
+      record { others = others; all = a; counted = ap length (a ∙ sym (all_of e)); in_message = rw a (line_signed head name e) }
 
 -- THE VALUES of a head's signed fields
 pub values_signed : (head : Head) → is_name_list head.fields (listed_names head) ≡ true → SignedValues head (values_in (signed_of head))

@@ -23,7 +23,7 @@ module _ (keys : KeyRing) (uri h b q : List ℕ) (ks : List Invocation) where
     pub all_events : events (words keys uri h b q ks) ≡ told_log (show_events (ring_of keys) p)
     pub part_body : body_told (events (words keys uri h b q ks)) ≡ body_of p.chunks
     -- which stand in the show's body behind those of the blocks before
-    pub in-the-show : body_of t.earlier ++ (body_of p.chunks ++ body_of t.later) ≡ body_of s.chunks
+    pub in_the_show : body_of t.earlier ++ (body_of p.chunks ++ body_of t.later) ≡ body_of s.chunks
     -- "the last word is *closed*. Its total is the bytes released"
     pub closes : Stands (length (stream_of p), last (closed (length (body_of p.chunks)))) (events (words keys uri h b q ks))
     -- what is asked and told of its blocks is what is asked and told of them in the whole show

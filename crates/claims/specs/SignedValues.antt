@@ -14,7 +14,7 @@ pub record HasValues (head : Head) (name value : List ℕ) (count : ℕ) : Type 
   pub others : List (List ℕ)
   pub all : value ∷ others ≡ values_of name head.fields
   pub counted : length (value ∷ others) ≡ count
-  pub in-message : LineIn (signing_line (record { name = name; value = joined_values (value ∷ others) })) (signing_string head)
+  pub in_message : LineIn (signing_line (record { name = name; value = joined_values (value ∷ others) })) (signing_string head)
 
 -- the head lists the name among those of the signed fields
 abbrev pub is_listed : Head → List ℕ → Bool

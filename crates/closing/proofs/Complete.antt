@@ -103,9 +103,9 @@ yeses_first ring (opening h l) log = refl
 yeses_first ring (onward w b l) log =
     rw (append_assoc (log_of ring w), one_yes (questions w) (yeses_in log)) (yeses_first ring w _)
 
-the-claim : {h : Head} {body t : List ℕ} → GoodEnd h body t → claims h t ≡ true → GoodClaim h body t
-the-claim (well_claimed c) e = c
-the-claim (unclaimed c) e = absurd (true≢false (sym e ∙ c))
+the_claim : {h : Head} {body t : List ℕ} → GoodEnd h body t → claims h t ≡ true → GoodClaim h body t
+the_claim (well_claimed c) e = c
+the_claim (unclaimed c) e = absurd (true≢false (sym e ∙ c))
 
 module _ (terms : Terms) where
   module _ (w : Beginning) (t : List ℕ) (g : GoodClaim (head_in w) (body w) t) where
@@ -160,7 +160,7 @@ module _ (terms : Terms) where
       let d = good_due terms true S answers told at total s in
       let o = due_ended terms true S answers at total d in
       ended_means o.beginning o.trailer d.rest d.others S answers told at total o.good o.zero o.good_trailer
-      (the-claim o.good_end o.claim) (rw o.stream d.stream) (rw o.stream d.place) o.size (rw (← o.needs) d.granted)
+      (the_claim o.good_end o.claim) (rw o.stream d.stream) (rw o.stream d.place) o.size (rw (← o.needs) d.granted)
 
   -- and so in a run, however the stream is cut.
   pub run_complete_means : (ks : List Call) (at total : ℕ) → Stands (at, last (complete total)) (events (outs terms ks))

@@ -27,7 +27,7 @@ use Rattle.stream.specs.Trailer.{ends_trailer, is_whole_trailer, is_trailer}
 use Rattle.stream.proofs.Truth.{same_equal, same_self}
 use Rattle.exactness.specs.Beginning.{Beginning, onward, written, head_in, announces, body, questions}
 use Rattle.exactness.specs.Good.{Announced, Good, GoodTrailer, claims}
-use Rattle.exactness.specs.Refusals.{Unended, data_end_refused, trailer_refused, end_refused, Unfinished, in_head, in-first-line, in_block, in-data-end, in-next-line, in-trailer}
+use Rattle.exactness.specs.Refusals.{Unended, data_end_refused, trailer_refused, end_refused, Unfinished, in_head, in_first_line, in_block, in_data_end, in_next_line, in_trailer}
 use Rattle.exactness.specs.Telling.{end_asks, body_closed, end_asked, completed, rule_broken}
 use Rattle.exactness.proofs.Faults.{faultless_trailer, faultless_claim}
 use Rattle.exactness.proofs.Forward.{past_of, context_of, end_says}
@@ -161,14 +161,14 @@ module _ (terms : Terms) where
     where
       by : (m : ℕ) → announces w ≡ m → NoneBelow (is_whole (announced (show_of terms.ring (head_in w)) (past_of w) (length (body w)) m)) f (suc (length f))
           → Unfinished terms (written w ++ f) (questions w)
-      by zero a n = in-trailer g a (none_unended ends_trailer head_limit f refl (omega arith) n)
+      by zero a n = in_trailer g a (none_unended ends_trailer head_limit f refl (omega arith) n)
       by (suc m) a n = in_block f g (omega (arith, short_length (suc m) f (omega arith) n))
 
   pub none_unfinished : (front : List ℕ) (yeses : ℕ) (c : Context) (f : List ℕ) → Reached terms front yeses c
       → NoneBelow (is_whole c) f (suc (length f)) → Unfinished terms (front ++ f) yeses
   unfolding is_whole is_whole_head ends_head ends_with same
   none_unfinished front yeses c f at_head n = in_head (none_unended ends_head head_limit f refl (omega arith) n)
-  none_unfinished front yeses c f (at_first g) n = in-first-line g (line_open f n)
+  none_unfinished front yeses c f (at_first g) n = in_first_line g (line_open f n)
   none_unfinished front yeses c f (at_line {w = w} g e) n = open_line w f g (rw e at n)
-  none_unfinished front yeses c f (at-end g a) n = in-data-end f g a (short_length 2 f (omega arith) n)
-  none_unfinished front yeses c f (at_next {w = w} {b = b} g a) n = rw (onward_written w b f) (in-next-line g a (line_open f n))
+  none_unfinished front yeses c f (at-end g a) n = in_data_end f g a (short_length 2 f (omega arith) n)
+  none_unfinished front yeses c f (at_next {w = w} {b = b} g a) n = rw (onward_written w b f) (in_next_line g a (line_open f n))

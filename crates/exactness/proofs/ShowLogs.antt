@@ -5,7 +5,7 @@ use mathlib.Core.Path.{◌≡◌, refl, ap, ◌∙◌}
 use Prim.Native.Nat.{ℕ}
 use lib.ListN.{length, length-append}
 use Rattle.sections.specs.Reading.{Log}
-use Rattle.stream.specs.Events.{Question, Release, block, LastWord}
+use Rattle.stream.specs.Events.{Question, Release, LastWord}
 use Rattle.stream.specs.Head.{Head, head_of, range_of}
 use Rattle.stream.specs.Range.{first_byte}
 use Rattle.stream.specs.Terms.{Terms}

@@ -20,7 +20,7 @@ use Rattle.stream.specs.Stream.{head, first_line, block_data, data_end, next_lin
 use Rattle.stream.specs.Terms.{Terms}
 use Rattle.stream.specs.Trailer.{ends_trailer, is_whole_trailer}
 use Rattle.exactness.specs.Beginning.{Beginning, written, head_in, announces, body}
-use Rattle.exactness.specs.Refusals.{Unfinished, in_head, in-first-line, in_block, in-data-end, in-next-line, in-trailer}
+use Rattle.exactness.specs.Refusals.{Unfinished, in_head, in_first_line, in_block, in_data_end, in_next_line, in_trailer}
 use Rattle.exactness.specs.Telling.{Stands, log_of}
 use Rattle.exactness.proofs.Forward.{past_of, context_of, place_is}
 use Rattle.exactness.proofs.Judged.{onward_whole}
@@ -53,7 +53,7 @@ module _ (terms : Terms) where
   unfolding plain_reading reading is_whole is_whole_head is_whole_line is_whole_trailer
   unfinished_stands S yeses others (in_head {h = h} u) =
       stands_last terms _ [] (length h) (0 + length h) (out_step terms head 0 h others (unended_none ends_head head_limit h u)) (omega arith)
-  unfinished_stands S yeses others (in-first-line {h = h} {l = l} g u) =
+  unfinished_stands S yeses others (in_first_line {h = h} {l = l} g u) =
       stands_last terms _ (head_log terms h) (length (h ++ l)) (length h + length l)
       (head_then terms h l others true _ g
       (out_step terms (first_line (show_of terms.ring (head_of h))) (length h) l others (unended_none (ends_with crlf) line_limit l u)))
@@ -61,18 +61,18 @@ module _ (terms : Terms) where
   unfinished_stands S yeses others (in_block {w = w} b g s) =
       stands_last terms _ (log_of terms.ring w) (length (written w ++ b)) (length (written w) + length b)
       (line_then terms w b others true _ g (block_out w b others s)) (sym (length-append (written w) b))
-  unfinished_stands S yeses others (in-data-end {w = w} {b = b} e g a s) =
+  unfinished_stands S yeses others (in_data_end {w = w} {b = b} e g a s) =
       stands_last terms _ (log_of terms.ring w) (length (written w ++ b ++ e)) (length (written w) + length b + length e)
       (block_then terms w b e others true _ g a
       (out_step terms (data_end (show_of terms.ring (head_in w)) (past_of w) b) (length (written w) + length b) e others (shorter_none 2 e s)))
       (omega (arith, length-append (written w ++ b) e, length-append (written w) b))
-  unfinished_stands S yeses others (in-next-line {w = w} {b = b} {l = l} g a u) =
+  unfinished_stands S yeses others (in_next_line {w = w} {b = b} {l = l} g a u) =
       rw (← place_is w b l, onward_whole w b l)
       (stands_last terms _ (log_of terms.ring w) (length (written w) + length b + 2 + length l) (length (written w) + length b + 2 + length l)
       (end_then terms w b l others true _ g a
       (out_step terms (next_line (show_of terms.ring (head_in w)) (past_of w) b) (length (written w) + length b + 2) l others (unended_none (ends_with crlf) line_limit l u)))
       refl)
-  unfinished_stands S yeses others (in-trailer {w = w} {t = t} g z u) =
+  unfinished_stands S yeses others (in_trailer {w = w} {t = t} g z u) =
       stands_last terms _ (log_of terms.ring w) (length (written w ++ t)) (length (written w) + length t)
       (line_then terms w t others true _ g
       (rw z (out_step terms (trailer (show_of terms.ring (head_in w)) (past_of w) (length (body w))) (length (written w)) t others (unended_none ends_trailer head_limit t u))))

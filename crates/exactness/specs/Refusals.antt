@@ -57,10 +57,10 @@ pub data Refuses (terms : Terms) : List ℕ → ℕ → ℕ → ℕ → Type 0 w
 -- `Unfinished terms S yeses`: the stream S breaks off, after so many yeses, within one of its parts or between two of them.
 pub data Unfinished (terms : Terms) : List ℕ → ℕ → Type 0 where
   in_head : {h : List ℕ} → Unended ends_head head_limit h → Unfinished terms h 0
-  in-first-line : {h l : List ℕ} → GoodHead terms h → Unended (ends_with crlf) line_limit l → Unfinished terms (h ++ l) 1
+  in_first_line : {h l : List ℕ} → GoodHead terms h → Unended (ends_with crlf) line_limit l → Unfinished terms (h ++ l) 1
   in_block : {w : Beginning} (b : List ℕ) → Good terms w → length b < announces w → Unfinished terms (written w ++ b) (questions w)
-  in-data-end : {w : Beginning} {b : List ℕ} (e : List ℕ) → Good terms w → Announced w b → length e < 2 → Unfinished terms (written w ++ b ++ e) (questions w)
-  in-next-line : {w : Beginning} {b l : List ℕ} → Good terms w → Announced w b → Unended (ends_with crlf) line_limit l
+  in_data_end : {w : Beginning} {b : List ℕ} (e : List ℕ) → Good terms w → Announced w b → length e < 2 → Unfinished terms (written w ++ b ++ e) (questions w)
+  in_next_line : {w : Beginning} {b l : List ℕ} → Good terms w → Announced w b → Unended (ends_with crlf) line_limit l
       → Unfinished terms (written (onward w b l)) (questions w)
-  in-trailer : {w : Beginning} {t : List ℕ} → Good terms w → announces w ≡ 0 → Unended ends_trailer head_limit t
+  in_trailer : {w : Beginning} {t : List ℕ} → Good terms w → announces w ≡ 0 → Unended ends_trailer head_limit t
       → Unfinished terms (written w ++ t) (questions w)

@@ -43,9 +43,9 @@ from_last text es i (suc k) =
 pub from_more : (text : List ℕ) (es : List Entry) (e : Entry) (k : ℕ) → k < length es → fields_from text (set es k e) 0 (k + 1) ≡ fields_from text es 0 k ++ (entry_field text e ∷ [])
 from_more text es e k h = rw (add-one k, from_last text (set es k e) 0 k, from_set text es e k 0 k (omega arith), zero-add k, get_or-set_same es k e no_entry h)
 
-pub in-from : (text : List ℕ) (f : Fields) → f.count ≤ field_limit → fields_in text f ≡ fields_from text f.entries 0 f.count
+pub in_from : (text : List ℕ) (f : Fields) → f.count ≤ field_limit → fields_in text f ≡ fields_from text f.entries 0 f.count
 unfolding fields_in
-in-from text f h =
+in_from text f h =
     let e : min f.count field_limit ≡ f.count = omega arith in
     rw e
 

@@ -78,13 +78,13 @@ four_rounds v w s x x1 x2 x3 x4 i e f1 f2 f3 f4 =
 pub rounds_end : (v : Variant) (w s x : List ℕ) (i n : ℕ) → i ≡ n → x ≡ rounds v i w s → x ≡ rounds v n w s
 rounds_end v w s x i n e f = rw e at f
 
-pub sums-are :
+pub sums_are :
     (v : Variant) (s t : List ℕ) (x0 x1 x2 x3 x4 x5 x6 x7 : ℕ)
     → x0 ≡ sum v s t 0 → x1 ≡ sum v s t 1 → x2 ≡ sum v s t 2 → x3 ≡ sum v s t 3
     → x4 ≡ sum v s t 4 → x5 ≡ sum v s t 5 → x6 ≡ sum v s t 6 → x7 ≡ sum v s t 7
     → ◌≡◌ {A = List ℕ} (x0 ∷ x1 ∷ x2 ∷ x3 ∷ x4 ∷ x5 ∷ x6 ∷ x7 ∷ []) (sums v s t)
 unfolding sums
-sums-are v s t x0 x1 x2 x3 x4 x5 x6 x7 e0 e1 e2 e3 e4 e5 e6 e7 = rw (e0, e1, e2, e3, e4, e5, e6, e7)
+sums_are v s t x0 x1 x2 x3 x4 x5 x6 x7 e0 e1 e2 e3 e4 e5 e6 e7 = rw (e0, e1, e2, e3, e4, e5, e6, e7)
 
 -- a block: its words, those that follow, the rounds over them and the sums
 pub compressed_is : (v : Variant) (n : ℕ) (p d w x s t r : List ℕ) → length v.constants ≡ n + 16 → w ≡ parsed v 16 p ++ drop 16 d → x ≡ schedule v n (take 16 w) → t ≡ rounds v (n + 16) x s → r ≡ sums v s t → r ≡ compressed v (parsed v 16 p) s

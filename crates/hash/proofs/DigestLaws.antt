@@ -1,6 +1,6 @@
 -- A hash is bytes: how many, and that each number of it is below 256.
 -- Assumes nothing.
-use Rattle.std.proofs.Common.{◌≡◌, ℕ, zero, suc, ◌+◌, ◌*◌, ◌/◌, ◌%◌, ◌<◌, List, [], ◌∷◌, ◌++◌, length, get_or, drop, refl, ap, ◌∙◌, arith}
+use Rattle.std.proofs.Common.{◌≡◌, ℕ, zero, suc, ◌*◌, ◌/◌, ◌%◌, ◌<◌, List, [], ◌∷◌, ◌++◌, length, get_or, drop, refl, ap, ◌∙◌, arith}
 use Rattle.hash.specs.Sha2.{Variant, block_size, big_endian, padded, parsed, sums, compressed, hashed, unparsed, digest}
 use Rattle.hash.specs.Sha512.{variant, sha512}
 use Rattle.hash.proofs.ByteLaws.{long_unparsed}

@@ -1,6 +1,6 @@
 -- A message m in parts: the hash value after its whole blocks and the bytes after them are all that is to be kept when b comes.
 -- Assumes nothing.
-use Rattle.std.proofs.Common.{◌≡◌, ℕ, ◌+◌, ◌*◌, ◌<◌, ◌≤◌, List, ◌++◌, length, take, drop, sym, ap, ◌∙◌, append_assoc, add-mul, div-mul-le_self, arith, take-append-drop, length-take-le, drop-drop, drop_at}
+use Rattle.std.proofs.Common.{◌≡◌, ℕ, ◌*◌, ◌<◌, ◌≤◌, List, ◌++◌, length, take, drop, sym, ap, ◌∙◌, append_assoc, add-mul, div-mul-le_self, arith, take-append-drop, length-take-le, drop-drop, drop_at}
 use Rattle.hash.specs.Sha2.{Variant, block_size, blocks, left, hashed, digest, finished}
 use Rattle.hash.proofs.LastLaws.{hashed_front, blocks_split, hashed_split, finished_add, finished_all}
 

@@ -1,6 +1,6 @@
 -- SHA-512: its numbers in FIPS 180-4, and the hash of a message. Assumes nothing.
 use Rattle.std.specs.Prelude.{ℕ, List, [], ◌∷◌}
-use Rattle.hash.specs.Sha2.{Variant, Amounts, digest}
+use Rattle.hash.specs.Sha2.{Variant, digest}
 
 -- 4.2.3: the eighty round words.
 unfoldable pub round_words : List ℕ

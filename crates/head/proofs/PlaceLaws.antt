@@ -44,14 +44,14 @@ module _ (text : List ℕ) (a b : ℕ) (h : a ≤ b) (k : b ≤ length text) whe
     names_moved : part_of value r.names_start r.names_end ≡ part_of text (a + r.names_start) (a + r.names_end)
     names_moved = ap (λ (v : List ℕ). part_of v r.names_start r.names_end) e ∙ part_moved text a b _ _ x.names_ordered (omega (arith, short))
 
-    in-text : head_sig_in text (moved a r) ≡ head_sig_in value r
+    in_text : head_sig_in text (moved a r) ≡ head_sig_in value r
     unfolding head_sig_in
-    in-text = ap₂ (with_texts r) (sym created_moved) (sym names_moved)
+    in_text = ap₂ (with_texts r) (sym created_moved) (sym names_moved)
 
     sig0_moved : ReadsSig0 text s (moved a r)
     sig0_moved =
         record {
-          meaning = in-text ∙ x.meaning;
+          meaning = in_text ∙ x.meaning;
           created_ordered = omega arith;
           created_within = omega (arith, short);
           names_ordered = omega arith;

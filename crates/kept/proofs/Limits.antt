@@ -18,7 +18,7 @@ use Rattle.stream.specs.Rule.{Rule, rule, first_broken}
 use Rattle.stream.specs.Stream.{Show, Past, Context, head, first_line, block_data, data_end, next_line, trailer, is_whole, judge, judge_head, judge_trailer, rules, plain_reading}
 use Rattle.stream.specs.Terms.{Terms}
 use Rattle.stream.specs.Trailer.{ends_trailer, is_whole_trailer, is_trailer}
-use Rattle.stream.proofs.PlaceCases.{unended-places}
+use Rattle.stream.proofs.PlaceCases.{unended_places}
 use Rattle.stream.proofs.Truth.{left_fails, right_fails}
 use Rattle.exactness.specs.Telling.{Stands}
 use Rattle.exactness.proofs.Ends.{limited, none_short, none_front}
@@ -133,7 +133,7 @@ module _ (limits : SectionLimits) (terms : Terms) where
       where
         by : (ended : Bool) → ends_trailer f ≡ ended → AlikeIn (trailer s p total) bs
         by false x =
-            let place : trailer_place f ≡ limits.bytes = (unended-places f).2 x ∙ cut_long ends_trailer limits.bytes bs f r some e x in
+            let place : trailer_place f ≡ limits.bytes = (unended_places f).2 x ∙ cut_long ends_trailer limits.bytes bs f r some e x in
             stops f r (refused 6 (trailer_place f)) e (unended_trailer s p total f x) (eq-eqb (trailer_place f) limits.bytes place)
         by true x = alike f r e (same_cut _ bs f r e _ (limit_less ends_trailer limits.bytes head_limit bytes) (rw x)) refl
 

@@ -1,7 +1,7 @@
 -- Laws on the state as bytes: its parts are written one after the other, and reading gives back what was written. Assumes nothing.
 use mathlib.Core.Bool.{Bool, true, false}
 use mathlib.Core.Path.{◌≡◌, refl, sym, ap, ◌∙◌}
-use mathlib.Core.List.{List, [], ◌∷◌, ◌++◌, map, append_assoc, append-nil}
+use mathlib.Core.List.{List, [], ◌∷◌, ◌++◌, append_assoc, append-nil}
 use Prim.Native.Nat.{ℕ, ◌+◌, ◌%◌, ◌^◌, ◌≤◌, ◌<◌}
 use native.Mathlib.Omega.{arith}
 use borrow.Author.Tests.{le-leb}
@@ -9,10 +9,9 @@ use denote.Array.{each}
 use denote.Builtin.{u32}
 use denote.Laws.{Is}
 use denote.Shadow.{shadow}
-use denote.Struct.Field.{u32-field}
 use mir.Val.{Val}
 use lib.Dec.{leb}
-use lib.ListN.{length, drop, length-map}
+use lib.ListN.{length, drop}
 use lib.Seq.{sets, sets-eq, length-sets, drop_at}
 use Rattle.octets.specs.Choice.{pick}
 use Rattle.ranges.specs.declared.extent.Extent.{Extent}
@@ -310,7 +309,7 @@ stored_stored r s n t d h =
 -- ---- a value in the code is sound: its numbers and arrays by what owning it gives, `c.good` of a parameter
 
 -- each word of an array, which a struct's field holds as it is
-words_of : (ws : List ℕ) (us : List Val) → shadow (each ℕ u32.own_val (map u32-field.into ws) us) → Words ws
+words_of : (ws : List ℕ) (us : List Val) → shadow (each ℕ u32.own_val ws us) → Words ws
 words_of [] us is = none
 words_of (w ∷ ws) [] is = absurd is
 words_of (w ∷ ws) (u ∷ us) is = more is.0.1 (words_of ws us is.1)
@@ -330,21 +329,21 @@ sound r vs is p x =
             status = g.1.0.1;
             size = g.1.1.0.1;
             key = g.1.1.1.1.0.1;
-            id = simp length-map at g.1.1.1.1.1.0.1.0.1;
+            id = g.1.1.1.1.1.0.1.0.1;
             count = g.1.1.1.1.1.1.0.1;
           };
       chain =
           record {
             number = c.0.1.1.0.1;
-            hash = simp length-map at c.1.0.1.0.1;
+            hash = c.1.0.1.0.1;
             body =
                 record {
-                  words = simp length-map at h.0.1.0.1;
+                  words = h.0.1.0.1;
                   small = words_of r.chain.body.words _ h.0.1.1;
-                  rest = simp length-map at h.1.0.1.0.1;
+                  rest = h.1.0.1.0.1;
                   count = h.1.1.0.1;
                 };
           };
-      line = simp length-map at f.1.1.1.0.1.0.1;
+      line = f.1.1.1.0.1.0.1;
       released = f.1.1.1.1.0.1;
     }

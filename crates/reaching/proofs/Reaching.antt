@@ -44,7 +44,7 @@ module _ (terms : Terms) where
   log_closing {n} (opening h l) log k = let e : 1 + n ≡ suc n = omega arith in rw e (asks (tells k))
   log_closing {n} (onward w b l) log k =
       let e : suc (suc (blocks w)) + n ≡ suc (blocks w) + suc n = omega arith in
-      rw (e, append_assoc (log_of terms.ring w)) (log_closing w _ (asks (tells k)))
+      rw (e, append_assoc (log_of terms.ring w)) (log_closing {n = suc n} w _ (asks (tells k)))
 
   -- the events of a show: those of its beginning, and those of its end
   show_events_lem : (s : Sending) → Honest terms s

@@ -99,7 +99,7 @@ summed_is m e = ap summed e ∙ summed_midstate m
 fed_holds : {h : Midstate} (m : List ℕ) (parts : List (List ℕ)) → Holds h m → Holds (fed h parts) (m ++ flatten parts)
 unfolding fed flatten
 fed_holds m [] e = e ∙ ap midstate (sym (append-nil m))
-fed_holds m (b ∷ parts) e = fed_holds (m ++ b) parts (added_holds m b e) ∙ ap midstate (append_assoc m b (flatten parts))
+fed_holds {h = h} m (b ∷ parts) e = fed_holds {h = added h b} (m ++ b) parts (added_holds m b e) ∙ ap midstate (append_assoc m b (flatten parts))
 
 -- however a message is cut, its hash is that of all bytes
 pub hash_of_parts : (parts : List (List ℕ)) → summed (fed start parts) ≡ sha256 (flatten parts)

@@ -1,6 +1,6 @@
 -- What the functions make of a midstate, held to its definition.
 -- Assumes nothing.
-use Rattle.std.proofs.Common.{◌≡◌, ℕ, zero, ◌+◌, ◌-◌, ◌*◌, ◌/◌, ◌%◌, ◌^◌, ◌<◌, ◌≤◌, List, ◌++◌, length, take, drop, set, sym, ap, ◌∙◌, ap₂, append_assoc, arith, lit<, length-append, length-drop, take-append-drop, length-take-le, take_all}
+use Rattle.std.proofs.Common.{◌≡◌, ℕ, ◌+◌, ◌-◌, ◌*◌, ◌/◌, ◌%◌, ◌^◌, ◌<◌, ◌≤◌, List, ◌++◌, length, take, drop, set, sym, ap, ◌∙◌, ap₂, append_assoc, arith, lit<, length-append, length-drop, take-append-drop, length-take-le, take_all}
 use native.Mathlib.Nat.{sub-zero, mod-mod}
 use lib.Seq.{paste, take-length, drop-append-add}
 use Rattle.hash.specs.Sha2.{big_endian, zeros, padding, hashed, blocks, left, unparsed, finished}

@@ -1,6 +1,6 @@
 -- SHA-256: its numbers in FIPS 180-4, and the hash of a message. Assumes nothing.
 use Rattle.std.specs.Prelude.{ℕ, List, [], ◌∷◌}
-use Rattle.hash.specs.Sha2.{Variant, Amounts, digest}
+use Rattle.hash.specs.Sha2.{Variant, digest}
 
 -- 4.2.2: the sixty-four round words.
 unfoldable pub round_words : List ℕ

@@ -1,10 +1,10 @@
 -- The signing string over Sig1 fits where messages are written (request #101). Two of its lines may come from the trailer, so that paper 01's
 -- "never longer than its head" does not cover it; but `X-Ouinet-Sig0`'s own line, which is in no signing string, is longer than what is added.
 -- Assumes nothing.
-use mathlib.Core.Bool.{Bool, true, ◌&&◌, ◌||◌}
+use mathlib.Core.Bool.{true, ◌||◌}
 use mathlib.Core.List.{List, [], ◌∷◌}
 use mathlib.Core.Path.{◌≡◌, refl}
-use Prim.Native.Nat.{ℕ, ◌+◌, ◌≤◌}
+use Prim.Native.Nat.{ℕ, ◌≤◌}
 use native.Mathlib.Omega.{arith}
 use lib.Dec.{eqb, ltb}
 use lib.ListN.{length, drop, get_or, length-drop}
@@ -18,8 +18,7 @@ use Rattle.stream.specs.Lines.{Field}
 use Rattle.stream.specs.Numbers.{is_decimal}
 use Rattle.stream.specs.Rule.{first_broken}
 use Rattle.stream.specs.Signatures.{is_sig0, created_text}
-use Rattle.stream.specs.Template.{starts_with, is_like}
-use Rattle.stream.proofs.LineSizes.{field_size}
+use Rattle.stream.specs.Template.{starts_with}
 use Rattle.stream.proofs.RulesHold.{AllHold, rules_hold, numbers_of}
 use Rattle.stream.proofs.SigningSize.{lines_fit, text_signs, status_size}
 use Rattle.stream.proofs.Truth.{left_holds, right_holds, within}
@@ -30,11 +29,11 @@ unfolding end_fault end_rules
 end_rules_hold h fs total hash e = rules_hold (end_rules h fs total hash) refl e
 
 -- "in this order": all of 13, then the size, then the digest, then the key
-pub end-rules-order
+pub end_rules_order
     : (h : Head) (fs : List Field) (total : ℕ) (hash : List ℕ)
     → numbers_of (end_rules h fs total hash) ≡ 13 ∷ 13 ∷ 13 ∷ 13 ∷ 13 ∷ 13 ∷ 13 ∷ 13 ∷ 13 ∷ 14 ∷ 15 ∷ 12 ∷ []
 unfolding end_rules
-end-rules-order h fs total hash = refl
+end_rules_order h fs total hash = refl
 
 decimal_size : (most : ℕ) (l : List ℕ) → is_decimal most l ≡ true → length l ≤ most
 unfolding is_decimal

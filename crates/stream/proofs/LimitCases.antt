@@ -9,7 +9,7 @@ use lib.ListN.{length}
 use Rattle.stream.specs.Head.{ends_head, is_whole_head}
 use Rattle.stream.specs.Trailer.{ends_trailer, is_whole_trailer}
 
-pub whole-at-32768
+pub whole_at_32768
     : (l : List ℕ) → (ends_head l ≡ false → is_whole_head l ≡ leb 32_768 (length l)) × (ends_trailer l ≡ false → is_whole_trailer l ≡ leb 32_768 (length l))
 unfolding is_whole_head is_whole_trailer
-whole-at-32768 l = (λ e. rw e, λ e. rw e)
+whole_at_32768 l = (λ e. rw e, λ e. rw e)

@@ -18,9 +18,9 @@ use Rattle.stream.proofs.Truth.{left_holds, right_holds}
 abbrev pub line_size : List ℕ → ℕ
 line_size line = length line + 2
 
-in-front-size : (b k : ℕ) (ls : List (List ℕ)) → total line_size ls ≤ k + 3 → total line_size (in_front b ls) ≤ k + 4
-in-front-size b k [] h = omega arith
-in-front-size b k (l ∷ ls) h = omega arith
+in_front_size : (b k : ℕ) (ls : List (List ℕ)) → total line_size ls ≤ k + 3 → total line_size (in_front b ls) ≤ k + 4
+in_front_size b k [] h = omega arith
+in_front_size b k (l ∷ ls) h = omega arith
 
 -- two more than the text, for a last line that nothing ends
 pub lines_size : (l : List ℕ) → total line_size (lines l) ≤ length l + 2
@@ -32,7 +32,7 @@ lines_size (b ∷ c ∷ l) = by (eqb b 13 && eqb c 10) (lines_size l) (lines_siz
     by : (t : Bool) → total line_size (lines l) ≤ length l + 2 → total line_size (lines (c ∷ l)) ≤ suc (length l) + 2
         → total line_size (elim t [ true ↦ [] ∷ lines l | false ↦ in_front b (lines (c ∷ l)) ]) ≤ suc (suc (length l)) + 2
     by true i j = omega arith
-    by false i j = omega (arith, in-front-size b (length l) (lines (c ∷ l)) (omega arith))
+    by false i j = omega (arith, in_front_size b (length l) (lines (c ∷ l)) (omega arith))
 
 before_size : (ls : List (List ℕ)) → total line_size (before_empty ls) ≤ total line_size ls
 unfolding before_empty

@@ -60,7 +60,7 @@ fields (suc n) = line "A: b" ++ fields n
 
 pub rows : List Case
 rows =
-    -- no end: the length taken; `unended-places` below says it of any text
+    -- no end: the length taken; `unended_places` below says it of any text
     row "x to the line's limit" (line_place (replicate 128 120)) 128
     ∷ row "x 126 times, and its end" (line_place (replicate 126 120 ++ crlf)) 0
     -- a CR may begin a line's end, and counts
@@ -122,8 +122,8 @@ unfolding rows holds_all said letter_value is_base64 holds_three holds_two holds
 places = refl
 
 -- "x to the limit", for any text without its end and whatever the limit is: the length taken
-pub unended-places
+pub unended_places
     : (l : List ℕ)
     → (ends_head l ≡ false → head_place l ≡ length l) × (ends_with crlf l ≡ false → line_place l ≡ length l) × (ends_trailer l ≡ false → trailer_place l ≡ length l)
 unfolding head_place line_place trailer_place
-unended-places l = (λ e. rw e, λ e. rw e, λ e. rw e)
+unended_places l = (λ e. rw e, λ e. rw e, λ e. rw e)

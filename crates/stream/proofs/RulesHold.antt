@@ -87,9 +87,9 @@ numbers_of [] = []
 numbers_of (r ∷ rs) = r.number ∷ numbers_of rs
 
 -- another version than 4 is told before a status that is not taken, and another show before a key that is not trusted
-pub head-rules-order
+pub head_rules_order
     : (terms : Terms) (l : List ℕ)
     → numbers_of (text_rules l (head_of l) ++ caller_rules terms (head_of l))
     ≡ 3 ∷ 3 ∷ 3 ∷ 3 ∷ 3 ∷ 4 ∷ 5 ∷ 4 ∷ 4 ∷ 4 ∷ 4 ∷ 4 ∷ 4 ∷ 4 ∷ 4 ∷ 4 ∷ 16 ∷ 12 ∷ 12 ∷ []
 unfolding text_rules caller_rules
-head-rules-order terms l = refl
+head_rules_order terms l = refl

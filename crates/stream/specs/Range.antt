@@ -1,6 +1,6 @@
 -- Which bytes of the body an answer carries (request #104: "Accept status 206 with one `Content-Range: bytes a-b/t`"), and what that field must be
 -- like. Assumes nothing.
-use Rattle.std.specs.Prelude.{Bool, true, false, ◌&&◌, ◌||◌, List, [], ◌∷◌, ℕ, suc, ◌+◌, ◌%◌, eqb, leb, ltb}
+use Rattle.std.specs.Prelude.{Bool, true, ◌&&◌, ◌||◌, List, [], ◌∷◌, ℕ, suc, ◌+◌, ◌%◌, eqb, leb, ltb}
 use Rattle.octets.specs.Octets.{octets}
 use Rattle.stream.specs.Bytes.{is_digit}
 use Rattle.stream.specs.Limits.{time_digits, body_limit}

@@ -12,8 +12,8 @@ use Rattle.stream.specs.Events.{Question, Release, head_accepted, block, LastWor
 use Rattle.state.specs.declared.word.Word.{Word}
 use Rattle.state.specs.declared.word.Word.TheVariants as W
 use Rattle.tally.specs.declared.Tally.{Tally}
-use Rattle.tally.specs.Counting.{largest, grown, no_counts, with_refused, refused_by, tallied_after, tallied}
-use Rattle.tally.specs.Counts.{Counts, counts, nothing, together, shown, refusal_counts, event_counts, counts_of, word_counts, words_count, word_of, words_of}
+use Rattle.tally.specs.Counting.{largest, grown, no_counts, with_refused, tallied_after, tallied}
+use Rattle.tally.specs.Counts.{Counts, counts, nothing, together, shown, event_counts, counts_of, word_counts, words_count, word_of, words_of}
 
 -- ---- counts, field by field
 

@@ -1,6 +1,6 @@
 -- No byte of the trailer changes the length of a buffer, or the head. Assumes nothing.
 use mathlib.Core.List.{List}
-use mathlib.Core.Path.{◌≡◌, refl, ◌∙◌}
+use mathlib.Core.Path.{refl}
 use Prim.Native.Nat.{ℕ, ◌+◌}
 use lib.Dec.{leb}
 use lib.ListN.{length, take, length-set}
@@ -8,7 +8,7 @@ use Rattle.ends.specs.declared.trailer.EndAnswer.{EndAnswer}
 use Rattle.ends.specs.declared.trailer.EndAnswer.TheVariants as A
 use Rattle.ends.proofs.QuestionKept.{question_kept}
 use Rattle.stream.specs.Trailer.{is_whole_trailer}
-use Rattle.state.specs.Configuration.{Configuration, configuration}
+use Rattle.state.specs.Configuration.{Configuration}
 use Rattle.state.proofs.KeptLaws.{Kept, kept_on, kept_pick, kept_after_lem, kept_refuse}
 use Rattle.trailer_steps.specs.Trailer.{trailer_answered, trailer_gathered, push_trailer}
 

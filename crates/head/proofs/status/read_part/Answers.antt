@@ -1,0 +1,7 @@
+-- The fields that a part answer has, each by its own answer. Assumes nothing.
+use Rattle.head.specs.Steps.{part_read}
+use Rattle.head.proofs.status.read_part.Goals as goal
+
+pub returns : goal.returns
+unfolding part_read
+returns c = rw (c.read-range.ensures, c.value_of.ensures, c.count_of-single.ensures)

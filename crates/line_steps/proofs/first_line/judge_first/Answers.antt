@@ -1,0 +1,33 @@
+-- A line that is not whole goes on; a whole one is judged and answered. Assumes nothing.
+use borrow.Author.Rules.{rules}
+use mathlib.Core.Path.{◌≡◌}
+use native.Mathlib.Nat.{sub-zero}
+use native.Mathlib.Omega.{arith}
+use lib.ListN.{length}
+use Rattle.line_steps.specs.FirstLine.{first_judged, first_gathered}
+use Rattle.line_steps.proofs.first_line.judge_first.Goals as goal
+
+pub slice_bounds-is_whole_line-end : goal.slice_bounds-is_whole_line-end
+slice_bounds-is_whole_line-end c =
+    let l : length c.args.r.line ≡ 128 = search (rules, c.well_formed.0.1.1.1.1.1.0.1.0.1) in
+    omega arith
+
+pub returns-then-not-is_whole_line : goal.returns-then-not-is_whole_line
+unfolding first_gathered
+returns-then-not-is_whole_line c =
+    λ h b q.
+    let w = rw sub-zero at c.is_whole_line.ensures in
+    rw (c.said.ensures, ← w, c.if-not-is_whole_line.true)
+
+pub slice_bounds-judge-end : goal.slice_bounds-judge-end
+slice_bounds-judge-end c =
+    let l : length c.args.r.line ≡ 128 = search (rules, c.well_formed.0.1.1.1.1.1.0.1.0.1) in
+    omega arith
+
+pub returns : goal.returns
+unfolding first_gathered first_judged
+returns c =
+    λ h b q.
+    let w = rw sub-zero at c.is_whole_line.ensures in
+    let e = rw (sub-zero, c.first_byte-first.ensures) at c.judge-judged.ensures in
+    rw (← w, c.if-not-is_whole_line.false, ← e) (c.answer_first.ensures h b q)

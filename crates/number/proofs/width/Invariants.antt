@@ -1,0 +1,12 @@
+-- The invariant: what was counted, with the digits that are left, is one more than all. Assumes nothing.
+use mathlib.Core.Path.{◌≡◌}
+use Prim.Native.Nat.{◌+◌}
+use lib.ListN.{length}
+use Rattle.stream.specs.Numbers.{decimal}
+use Rattle.number.proofs.width.Given as goal
+
+abbrev pub invariant-loop-left : goal.invariant-loop-left
+invariant-loop-left l = l.count + length (decimal l.left) ≡ length (decimal l.n) + 1
+
+abbrev pub decreases-loop-left : goal.decreases-loop-left
+decreases-loop-left l = l.left

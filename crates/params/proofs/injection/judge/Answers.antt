@@ -1,0 +1,20 @@
+-- The id, by its length, and the time, by what it writes. Assumes nothing.
+use mathlib.Core.Path.{sym, ◌∙◌}
+use lib.Dec.{lit≤}
+use Rattle.number.proofs.Forms.{decimal_found, decimal_missed}
+use Rattle.params.proofs.InjectionLaws.{id_missing, id_long, time_bad, injection_good}
+use Rattle.params.proofs.injection.judge.Goals as goal
+
+pub returns-then-id-lt1 : goal.returns-then-id-lt1
+returns-then-id-lt1 c = c.no_injection.ensures ∙ sym (id_missing _ _ c.if-id-lt1.true)
+
+pub returns-then-id-gt-ID_LIMIT : goal.returns-then-id-gt-ID_LIMIT
+returns-then-id-gt-ID_LIMIT c = c.no_injection-then-id-gt-ID_LIMIT.ensures ∙ sym (id_long _ _ c.if-id-gt-ID_LIMIT.true)
+
+pub returns-in-Value : goal.returns-in-Value
+returns-in-Value c =
+    let f = decimal_found 12 _ (lit≤ tt) _ (sym c.decimal.ensures.answers ∙ c.in-Value.is) in
+    rw (c.fill.ensures, f.1) (sym (injection_good _ _ c.if-id-lt1.false c.if-id-gt-ID_LIMIT.false f.0))
+
+pub returns-in-Bad : goal.returns-in-Bad
+returns-in-Bad c = c.no_injection-in-Bad.ensures ∙ sym (time_bad _ _ (decimal_missed 12 _ (lit≤ tt) _ (sym c.decimal.ensures.answers ∙ c.in-Bad.is)))

@@ -1,0 +1,7 @@
+-- The definition, with what the comparison of the keys says. Assumes nothing.
+use Rattle.stream.specs.Ring.{fits}
+use Rattle.ring.proofs.fits.Goals as goal
+
+pub returns : goal.returns
+unfolding fits
+returns c = rw c.same-same.ensures
