@@ -1,5 +1,5 @@
 # make run      the main job on its built-in example
-# make test     proves every crate from nothing and runs all tests: the gate. RT_JOBS=3 has rt prove three crates or edits at a time, and not three times as many as there are cores
+# make test     `rt ci`, which proves every crate, tries the must-fail edits and runs the programs, and then all other tests: the gate. What rt ci has passed on this machine it keeps beside the kit, and does not prove again while nothing changes
 # make long     the body's limit itself, 4,294,967,296 bytes and one more, through a pipe; about a minute, and not in the gate
 # make fuzz     a million random lists of calls beside the second reader, then the C interface's fuzz target for two minutes
 # make bench    speed: SHA-512, SHA-256, base64 and the whole reader beside ordinary Rust ones, and the judgement of large heads
@@ -41,4 +41,4 @@ picture:
 # The program alone, proved and linked
 program:
 	@scripts/setup
-	@scripts/progress ouiread rt check ouiread
+	@scripts/program

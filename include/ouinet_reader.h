@@ -1,8 +1,8 @@
 /*
  * The reader of Ouinet signature streams (version 4), for C and C++.
  *
- * Link with libreader_export.a (`rt staticlib reader_export` writes it; x86-64 Linux). The library is proved: the contracts in
- * crates/reader_export/src say for every input what each function returns and what it leaves in every byte that it is lent.
+ * Link with libreader_export.a (`scripts/library` writes it to target/staticlib; x86-64 Linux). The library is proved: the contracts in
+ * crates/reader_export_c/src say for every input what each function returns and what it leaves in every byte that it is lent.
  *
  * The library holds nothing between calls. It allocates nothing, opens nothing, and never verifies a signature: it asks, and the
  * caller answers. All that it works on is lent to each call:

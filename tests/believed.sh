@@ -24,11 +24,11 @@ check 'docs/CLAIMS.md has the table that scripts/believed works out' diff "$work
 
 cp -r crates "$work/crates"
 before=$(total)
-printf -- '\n-- a comment\nuse lib.ListN.{length}\n' >>"$work/crates/stream/specs/Limits.antt"
+printf -- '\n-- a comment\nuse Rattle.std.specs.Prelude.{length}\n' >>"$work/crates/stream/specs/Limits.antt"
 check 'comments, imports and empty lines do not count' test "$(total)" = "$before"
 printf 'abbrev pub one : ℕ\none = 1\n' >>"$work/crates/stream/specs/Limits.antt"
 check 'a definition does' test "$(total)" = $((before + 2))
-printf 'use Rattle·stranger.specs.Thing.{thing}\n' >>"$work/crates/stream/specs/Limits.antt"
+printf 'use Rattle.stranger.specs.Thing.{thing}\n' >>"$work/crates/stream/specs/Limits.antt"
 mkdir -p "$work/crates/stranger/specs"
 printf 'abbrev pub thing : ℕ\nthing = 1\n' >"$work/crates/stranger/specs/Thing.antt"
 check 'a crate that stands in no part of the table is an error' eval '! scripts/believed "$work" >/dev/null 2>"$work/error"'

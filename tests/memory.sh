@@ -6,6 +6,7 @@
 set -uo pipefail
 cd "$(dirname "$0")/.."
 . scripts/counting
+scripts/program || exit 1
 scripts/cargo-build || exit 1
 
 streams=rust/target/release/streams

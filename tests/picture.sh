@@ -25,7 +25,7 @@ another() {
 
 check 'the picture is drawn' draw crates.txt
 check 'docs/crates.svg is what scripts/crates-picture draws: make picture draws it anew' cmp "$work/drawn" docs/crates.svg
-names=$(sed -e 's/#.*//' -ne 's/^ *\([A-Za-z0-9_]*\) *:.*/\1/p' crates.txt)
+names=$(sed -e 's/#.*//' -ne 's/^ *\([A-Za-z0-9_]*\)[^:]*:.*/\1/p' crates.txt)
 for name in $names; do
     check "$name stands in the picture once" once "$name"
 done

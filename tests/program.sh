@@ -4,6 +4,7 @@
 set -uo pipefail
 cd "$(dirname "$0")/.."
 . scripts/counting
+scripts/program || exit 1
 
 ouiread=$PWD/target/bin/ouiread
 work=$(mktemp -d)

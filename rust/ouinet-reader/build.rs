@@ -1,5 +1,5 @@
 //! Finds the proved static library and has it linked. It is looked for in the folder that the environment variable names,
-//! or else where `rt staticlib reader_export` puts it.
+//! or else where `scripts/library` puts it.
 
 use std::env;
 use std::path::{Path, PathBuf};
@@ -25,7 +25,7 @@ fn main() {
     println!("cargo::rerun-if-changed={}", library.display());
     if !library.is_file() {
         println!(
-            "cargo::error={} is missing: run `rt staticlib reader_export` at the top of the repository, or set {VARIABLE} \
+            "cargo::error={} is missing: run `scripts/library` at the top of the repository, or set {VARIABLE} \
              to the folder that holds {LIBRARY}",
             library.display()
         );
