@@ -17,7 +17,9 @@ KIT = os.environ.get("RATTLE_KIT", "/opt/rattle")
 BREAK = r"\s(){}\[\];,.\"|"
 TOKEN = re.compile(rf"[^{BREAK}]+")
 STRING = re.compile(r'"(?:[^"\\]|\\.)*"')
-HEAD = re.compile(r"^\s*((?:(?:abbrev|unfoldable|pub|data|record|mutual)\s+)*)([^\s(){}\[\];,.\"]+)((?:\s+[^\s(){}\[\];,.\":=]+)*)\s:\s")
+HEAD = re.compile(r"^\s*((?:(?:abbrev|unfoldable|pub|data|record|mutual)\s+)*)([^\s(){}\[\];,.\"]+)((?:\s+[^\s(){}\[\];,.\":=]+)*)\s:(?:\s|$)")
+# a name alone on its line, with its type on the next ones
+ALONE = re.compile(r"(?m)^\s*(?:(?:pub|abbrev|unfoldable) )*([a-z][\w'-]*)\n\s+[(:{]")
 BOUND = re.compile(r"[({]((?:[^\s(){}\[\];,.\":]+\s+)+): ")
 LAMBDA = re.compile(r"λ ((?:[^\s(){}\[\];,.\"]+ ?)+)\.")
 LET = re.compile(r"\blet ([^\s(){}\[\];,.\"]+) [:=]")
@@ -28,7 +30,7 @@ MADE = re.compile(r"^(Need|Goal|invariant|decreases|After|Then|Else|In|At|Start|
 
 def files(root):
     for folder, dirs, names in os.walk(os.path.join(root, "crates")):
-        dirs[:] = sorted(d for d in dirs if d not in ("out", "data"))
+        dirs[:] = sorted(d for d in dirs if d != "out" and not (d == "data" and os.path.basename(os.path.dirname(folder)) == "crates"))
         for n in sorted(names):
             if n.endswith((".antt", ".rt")):
                 yield os.path.join(folder, n)
@@ -61,6 +63,8 @@ def declared(root, part=None):
     for p in files(root):
         if not p.endswith(".antt") or part and f"/{part}/" not in p:
             continue
+        if os.path.basename(p) != "Proof.antt":
+            own.update(ALONE.findall(text_of(p)))
         walk = os.path.basename(p) == "Proof.antt"
         for line in text_of(p).splitlines():
             line = code(line)
@@ -107,12 +111,18 @@ LEMMAS = ("answer_at", "decimal_digit", "entry_value", "one_more", "push_at", "r
 def table(root):
     """Old and new names. A lemma that would have its definition's name gets `_lem`."""
     own, theirs = declared(root), library(root)
+    # a name like those that Rattle makes is this repository's where specs/ or a file of lemmas declares it
+    ours = set()
+    for p in files(root):
+        if p.endswith(".antt") and os.path.basename(p) != "Proof.antt":
+            heads = (HEAD.match(code(line)) for line in text_of(p).splitlines())
+            ours.update(m[2] for m in heads if m)
     plain = {n for n in own if snake(n) == n}
     shown = declared(root, "specs")
     defined = {snake(n) for n in own if "-" not in n and snake(n) != n}
     names = {n: n + "_lem" for n in LEMMAS}
     for n in own:
-        if snake(n) == n or n in theirs or MADE.match(n):
+        if snake(n) == n or n in theirs or MADE.match(n) and n not in ours:
             continue
         names[n] = snake(n) + ("_lem" if "-" in n and n not in shown and snake(n) in defined | plain else "")
     return names
