@@ -1,16 +1,13 @@
 -- `base64::read` meets its contract. The invariant: the whole is a text of n bytes just where the rest is one of the bytes left; it stands as far as the
 -- rest does; and what is written so far, followed by the bytes of the rest, are the bytes of the whole. The measure is the number of groups
 -- left, so there is at most one turn for each group: 11 turns for 32 bytes, 22 for 64. Assumes nothing.
-use mathlib.Core.Bool.{false, false≢true}
+use mathlib.Core.Bool.{false≢true}
 use mathlib.Core.Path.{◌≡◌, refl, sym, ap, ◌∙◌}
-use Prim.Native.Nat.{◌+◌, ◌-◌, ◌^◌, ◌≤◌, ◌<◌}
+use Prim.Native.Nat.{◌-◌}
 use native.Mathlib.Omega.{arith}
-use lib.ListN.{length, drop}
-use Rattle.base64_text.specs.Base64.{is_base64}
-use Rattle.base64_text.specs.Places.{standing_from, viable_length, checked}
 use Rattle.places.specs.declared.Checked.{Checked}
 use Rattle.base64_text.proofs.Groups.{turn, turn_length, turns_end}
-use Rattle.base64_text.proofs.Turns.{ReadAt, read_at, stops_here, goes_on, ends_here}
+use Rattle.base64_text.proofs.Turns.{read_at, stops_here, goes_on, ends_here}
 use Rattle.base64_text.proofs.read.Goals as goal
 
 pub loop-o-init : goal.loop-o-init
@@ -23,78 +20,35 @@ shape_of-out-then-g-lt4 c = c.loop-o.invariant.3
 
 pub returns-then-g-lt4 : goal.returns-then-g-lt4
 returns-then-g-lt4 c =
-    let read_here : ReadAt c.args.text.now (c.args.n - c.loop-o.o) c.loop-o.i c.read_group-g.result = read_at _ _ _ _ _ _ _
-    c.byte_at.ensures
-    c.byte_at-in-loop-o.ensures
-    c.byte_at-in-loop-o-2.ensures
-    c.byte_at-in-loop-o-3.ensures
-    c.read_group-g.ensures in
-    let stop : c.read_group-g.result.standing < 4 → ◌≡◌ {A = Checked} (record { good = false; at = c.loop-o.i + c.read_group-g.result.standing }) (checked c.args.n c.args.text.now) = λ h. let i = c.loop-o.invariant in
-    stops_here _ _ _ _ (read_here) i.4 i.5 (omega arith) i.0 i.1 h in
-    let s = stop c.if-g-lt4.true in
+    let i = c.loop-o.invariant in
+    let g = read_at c.args.text.now (c.args.n - c.loop-o.o) c.loop-o.i _ _ _ _ c.byte_at.ensures c.byte_at-in-loop-o.ensures c.byte_at-in-loop-o-2.ensures c.byte_at-in-loop-o-3.ensures c.read_group-g.ensures in
+    let s = stops_here _ _ _ _ g i.4 i.5 (omega arith) i.0 i.1 c.if-g-lt4.true in
     record { answers = s; writes = λ _ h. absurd (false≢true (ap (λ (k : Checked). k.good) s ∙ h)) }
 
 pub overflow_add-o-in-loop-o-2 : goal.overflow_add-o-in-loop-o-2
 overflow_add-o-in-loop-o-2 c =
-    let read_here : ReadAt c.args.text.now (c.args.n - c.loop-o.o) c.loop-o.i c.read_group-g.result = read_at _ _ _ _ _ _ _
-    c.byte_at.ensures
-    c.byte_at-in-loop-o.ensures
-    c.byte_at-in-loop-o-2.ensures
-    c.byte_at-in-loop-o-3.ensures
-    c.read_group-g.ensures in
-    let next : 4 ≤ c.read_group-g.result.standing → let t = c.args.text.now in
-    let n = c.args.n in
-    (is_base64 n t ≡ is_base64 (n - (c.loop-o.o + 3)) (drop (c.loop-o.i + 4) t))
-    × (viable_length n t ≡ c.loop-o.i + 4 + standing_from n (c.loop-o.i + 4) (drop (c.loop-o.i + 4) t))
-    × (c.loop-o.i + 4 ≤ length t)
-    × (length t < 2 ^ 63) = λ h. let i = c.loop-o.invariant in
-    let e = goes_on _ _ _ _ (read_here) i.4 i.5 (omega arith) i.0 i.1 h in
-    (e.0, e.1, e.2, omega (arith, c.well_formed.0.1)) in
-    let e = next (omega arith) in
-    omega (arith, e.2, e.3, c.loop-o.invariant.5)
+    let i = c.loop-o.invariant in
+    let g = read_at c.args.text.now (c.args.n - c.loop-o.o) c.loop-o.i _ _ _ _ c.byte_at.ensures c.byte_at-in-loop-o.ensures c.byte_at-in-loop-o-2.ensures c.byte_at-in-loop-o-3.ensures c.read_group-g.ensures in
+    let e = goes_on _ _ _ _ g i.4 i.5 (omega arith) i.0 i.1 (omega arith) in
+    omega (arith, e.2, c.well_formed.0.1, i.5)
 
 pub overflow_add-i-in-loop-o-3 : goal.overflow_add-i-in-loop-o-3
 overflow_add-i-in-loop-o-3 c =
-    let read_here : ReadAt c.args.text.now (c.args.n - c.loop-o.o) c.loop-o.i c.read_group-g.result = read_at _ _ _ _ _ _ _
-    c.byte_at.ensures
-    c.byte_at-in-loop-o.ensures
-    c.byte_at-in-loop-o-2.ensures
-    c.byte_at-in-loop-o-3.ensures
-    c.read_group-g.ensures in
-    let next : 4 ≤ c.read_group-g.result.standing → let t = c.args.text.now in
-    let n = c.args.n in
-    (is_base64 n t ≡ is_base64 (n - (c.loop-o.o + 3)) (drop (c.loop-o.i + 4) t))
-    × (viable_length n t ≡ c.loop-o.i + 4 + standing_from n (c.loop-o.i + 4) (drop (c.loop-o.i + 4) t))
-    × (c.loop-o.i + 4 ≤ length t)
-    × (length t < 2 ^ 63) = λ h. let i = c.loop-o.invariant in
-    let e = goes_on _ _ _ _ (read_here) i.4 i.5 (omega arith) i.0 i.1 h in
-    (e.0, e.1, e.2, omega (arith, c.well_formed.0.1)) in
-    let e = next (omega arith) in
-    omega (arith, e.2, e.3)
+    let i = c.loop-o.invariant in
+    let g = read_at c.args.text.now (c.args.n - c.loop-o.o) c.loop-o.i _ _ _ _ c.byte_at.ensures c.byte_at-in-loop-o.ensures c.byte_at-in-loop-o-2.ensures c.byte_at-in-loop-o-3.ensures c.read_group-g.ensures in
+    let e = goes_on _ _ _ _ g i.4 i.5 (omega arith) i.0 i.1 (omega arith) in
+    omega (arith, e.2, c.well_formed.0.1)
 
 pub loop-o-preserved : goal.loop-o-preserved
 loop-o-preserved c =
-    let read_here : ReadAt c.args.text.now (c.args.n - c.loop-o.o) c.loop-o.i c.read_group-g.result = read_at _ _ _ _ _ _ _
-    c.byte_at.ensures
-    c.byte_at-in-loop-o.ensures
-    c.byte_at-in-loop-o-2.ensures
-    c.byte_at-in-loop-o-3.ensures
-    c.read_group-g.ensures in
-    let next : 4 ≤ c.read_group-g.result.standing → let t = c.args.text.now in
-    let n = c.args.n in
-    (is_base64 n t ≡ is_base64 (n - (c.loop-o.o + 3)) (drop (c.loop-o.i + 4) t))
-    × (viable_length n t ≡ c.loop-o.i + 4 + standing_from n (c.loop-o.i + 4) (drop (c.loop-o.i + 4) t))
-    × (c.loop-o.i + 4 ≤ length t)
-    × (length t < 2 ^ 63) = λ h. let i = c.loop-o.invariant in
-    let e = goes_on _ _ _ _ (read_here) i.4 i.5 (omega arith) i.0 i.1 h in
-    (e.0, e.1, e.2, omega (arith, c.well_formed.0.1)) in
-    let i = c.loop-o.invariant in
-    let e = next c.if-g-lt4.false in
-    let r = turn_length c.args.text.now c.loop-o.out _ c.loop-o.i read_here.bits c.put.ensures c.put-in-loop-o.ensures c.put-in-loop-o-2.ensures in (
+    let l = c.loop-o in
+    let i = l.invariant in
+    let g = read_at c.args.text.now (c.args.n - c.loop-o.o) c.loop-o.i _ _ _ _ c.byte_at.ensures c.byte_at-in-loop-o.ensures c.byte_at-in-loop-o-2.ensures c.byte_at-in-loop-o-3.ensures c.read_group-g.ensures in
+    let e = goes_on _ _ _ _ g i.4 i.5 (omega arith) i.0 i.1 c.if-g-lt4.false in (
       e.0,
       e.1,
-      λ h. turn _ c.loop-o.out _ c.loop-o.i read_here.bits c.put.ensures c.put-in-loop-o.ensures c.put-in-loop-o-2.ensures _ (i.3 ∙ h) ∙ i.2 h,
-      r ∙ i.3,
+      λ h. turn _ l.out _ l.i g.bits c.put.ensures c.put-in-loop-o.ensures c.put-in-loop-o-2.ensures _ (i.3 ∙ h) ∙ i.2 h,
+      turn_length c.args.text.now l.out _ l.i g.bits c.put.ensures c.put-in-loop-o.ensures c.put-in-loop-o-2.ensures ∙ i.3,
       omega arith,
       omega arith,
       e.2,
