@@ -1,21 +1,16 @@
 -- A turn is a skipped run and one byte, and the run over the whole piece is the run over the rest from where the turn leaves the
 -- reader. Assumes nothing.
-use mathlib.Core.Bool.{false}
-use mathlib.Core.Path.{◌≡◌, sym, ap, ◌∙◌}
+use mathlib.Core.Path.{sym, ap, ◌∙◌}
 use native.Mathlib.Omega.{arith}
-use Prim.Native.Nat.{◌+◌, ◌≤◌}
-use lib.ListN.{length, drop}
+use Prim.Native.Nat.{◌+◌}
 use Rattle.ring.specs.Keys.{terms_of}
-use Rattle.state.specs.Configuration.{configuration, goes_on}
-use Rattle.state.specs.Run.{Fed, event, run_of}
-use Rattle.reader.specs.Feed.{push_byte, fed, taken_from}
+use Rattle.state.specs.Run.{Fed}
+use Rattle.reader.specs.Feed.{fed, taken_from}
 use Rattle.reader.proofs.FeedLaws.{run_done, run_on, run_stop, skip_within, skip_same}
 use Rattle.reader.proofs.feeding.take.Goals as goal
 
 pub overflow_add-taken : goal.overflow_add-taken
-overflow_add-taken c =
-    let within : c.loop-taken.taken + c.skip-passed.result.taken ≤ length (c.args.piece.now) = skip_within (terms_of c.args.ring (c.args.uri.now)) (c.args.piece.now) c.loop-taken.taken c.loop-taken.state c.loop-taken.block c.skip-passed.result _ c.skip-passed.ensures c.loop-taken.invariant.0 in
-    omega (arith, within)
+overflow_add-taken c = omega (arith, skip_within (terms_of c.args.ring c.args.uri.now) c.args.piece.now c.loop-taken.taken _ _ c.skip-passed.result _ c.skip-passed.ensures c.loop-taken.invariant.0)
 
 pub shape_of-head-then-piece-taken : goal.shape_of-head-then-piece-taken
 shape_of-head-then-piece-taken c = c.loop-taken.invariant.1
@@ -29,50 +24,40 @@ shape_of-question-then-piece-taken c = c.loop-taken.invariant.3
 pub returns-then-piece-taken : goal.returns-then-piece-taken
 unfolding taken_from
 returns-then-piece-taken c =
-    let skipped : (run_of (push_byte (terms_of c.args.ring (c.args.uri.now))) (configuration c.args.r c.args.head.now c.args.block.now c.args.question.now) 0 (c.args.piece.now)) ≡ run_of (push_byte (terms_of c.args.ring (c.args.uri.now))) (configuration c.skip-passed.result.reader c.loop-taken.head c.skip-passed.new.block c.loop-taken.question) (c.loop-taken.taken + c.skip-passed.result.taken) (drop (c.loop-taken.taken + c.skip-passed.result.taken) (c.args.piece.now)) = c.loop-taken.invariant.4 ∙ skip_same (terms_of c.args.ring (c.args.uri.now)) (c.args.piece.now) c.loop-taken.taken c.loop-taken.state c.loop-taken.block c.skip-passed.result _ c.skip-passed.ensures c.loop-taken.head c.loop-taken.question in
+    let skipped = c.loop-taken.invariant.4 ∙ skip_same (terms_of c.args.ring c.args.uri.now) c.args.piece.now c.loop-taken.taken _ _ c.skip-passed.result _ c.skip-passed.ensures c.loop-taken.head c.loop-taken.question in
     rw c.told.ensures (sym (ap (λ (f : Fed). fed f) (skipped ∙ run_done _ _ _ _ c.if-piece-taken.true)))
 
 pub overflow_add-taken-in-loop-taken : goal.overflow_add-taken-in-loop-taken
-overflow_add-taken-in-loop-taken c =
-    let within : c.loop-taken.taken + c.skip-passed.result.taken ≤ length (c.args.piece.now) = skip_within (terms_of c.args.ring (c.args.uri.now)) (c.args.piece.now) c.loop-taken.taken c.loop-taken.state c.loop-taken.block c.skip-passed.result _ c.skip-passed.ensures c.loop-taken.invariant.0 in
-    omega (arith, within)
+overflow_add-taken-in-loop-taken c = omega (arith, skip_within (terms_of c.args.ring c.args.uri.now) c.args.piece.now c.loop-taken.taken _ _ c.skip-passed.result _ c.skip-passed.ensures c.loop-taken.invariant.0)
 
 pub shape_of-head-then-not-goes_on : goal.shape_of-head-then-not-goes_on
-shape_of-head-then-not-goes_on c =
-    let head_long : length c.push-stepped.new.head ≡ length c.args.head.now = c.push-stepped.auto.head ∙ c.loop-taken.invariant.1 in
-    head_long
+shape_of-head-then-not-goes_on c = c.push-stepped.auto.head ∙ c.loop-taken.invariant.1
 
 pub shape_of-block-then-not-goes_on : goal.shape_of-block-then-not-goes_on
-shape_of-block-then-not-goes_on c =
-    let block_long : length c.push-stepped.new.block ≡ length c.args.block.now = c.push-stepped.auto.block ∙ c.skip-passed.auto.block ∙ c.loop-taken.invariant.2 in
-    block_long
+shape_of-block-then-not-goes_on c = c.push-stepped.auto.block ∙ c.skip-passed.auto.block ∙ c.loop-taken.invariant.2
 
 pub shape_of-question-then-not-goes_on : goal.shape_of-question-then-not-goes_on
-shape_of-question-then-not-goes_on c =
-    let question_long : length c.push-stepped.new.question ≡ length c.args.question.now = c.push-stepped.auto.question ∙ c.loop-taken.invariant.3 in
-    question_long
+shape_of-question-then-not-goes_on c = c.push-stepped.auto.question ∙ c.loop-taken.invariant.3
 
 pub returns-then-not-goes_on : goal.returns-then-not-goes_on
 unfolding taken_from
 returns-then-not-goes_on c =
-    let skipped : (run_of (push_byte (terms_of c.args.ring (c.args.uri.now))) (configuration c.args.r c.args.head.now c.args.block.now c.args.question.now) 0 (c.args.piece.now)) ≡ run_of (push_byte (terms_of c.args.ring (c.args.uri.now))) (configuration c.skip-passed.result.reader c.loop-taken.head c.skip-passed.new.block c.loop-taken.question) (c.loop-taken.taken + c.skip-passed.result.taken) (drop (c.loop-taken.taken + c.skip-passed.result.taken) (c.args.piece.now)) = c.loop-taken.invariant.4 ∙ skip_same (terms_of c.args.ring (c.args.uri.now)) (c.args.piece.now) c.loop-taken.taken c.loop-taken.state c.loop-taken.block c.skip-passed.result _ c.skip-passed.ensures c.loop-taken.head c.loop-taken.question in
-    let pushed_stop : goes_on c.push-stepped.result.word ≡ false → (run_of (push_byte (terms_of c.args.ring (c.args.uri.now))) (configuration c.args.r c.args.head.now c.args.block.now c.args.question.now) 0 (c.args.piece.now)) ≡ event c.push-stepped.result.word c.push-stepped.result.signature ((c.loop-taken.taken + c.skip-passed.result.taken) + 1) (configuration c.push-stepped.result.reader c.push-stepped.new.head c.push-stepped.new.block c.push-stepped.new.question) = λ g. skipped ∙ run_stop (terms_of c.args.ring (c.args.uri.now)) (c.args.piece.now) ((c.loop-taken.taken + c.skip-passed.result.taken)) _ c.push-stepped.result _ _ _ c.if-piece-taken.false c.push-stepped.ensures g in
-    rw c.ended.ensures (sym (ap (λ (f : Fed). fed f) (pushed_stop (sym c.goes_on.ensures ∙ c.if-not-goes_on.true))))
+    let skipped = c.loop-taken.invariant.4 ∙ skip_same (terms_of c.args.ring c.args.uri.now) c.args.piece.now c.loop-taken.taken _ _ c.skip-passed.result _ c.skip-passed.ensures c.loop-taken.head c.loop-taken.question in
+    let stopped = run_stop (terms_of c.args.ring c.args.uri.now) c.args.piece.now (c.loop-taken.taken + c.skip-passed.result.taken) _ c.push-stepped.result _ _ _ c.if-piece-taken.false c.push-stepped.ensures (sym c.goes_on.ensures ∙ c.if-not-goes_on.true) in
+    rw c.ended.ensures (sym (ap (λ (f : Fed). fed f) (skipped ∙ stopped)))
 
 pub loop-taken-smaller : goal.loop-taken-smaller
-loop-taken-smaller c =
-    let within : c.loop-taken.taken + c.skip-passed.result.taken ≤ length (c.args.piece.now) = skip_within (terms_of c.args.ring (c.args.uri.now)) (c.args.piece.now) c.loop-taken.taken c.loop-taken.state c.loop-taken.block c.skip-passed.result _ c.skip-passed.ensures c.loop-taken.invariant.0 in
-    omega (arith, within)
+loop-taken-smaller c = omega (arith, skip_within (terms_of c.args.ring c.args.uri.now) c.args.piece.now c.loop-taken.taken _ _ c.skip-passed.result _ c.skip-passed.ensures c.loop-taken.invariant.0)
 
 pub loop-taken-preserved : goal.loop-taken-preserved
 loop-taken-preserved c =
-    let within : c.loop-taken.taken + c.skip-passed.result.taken ≤ length (c.args.piece.now) = skip_within (terms_of c.args.ring (c.args.uri.now)) (c.args.piece.now) c.loop-taken.taken c.loop-taken.state c.loop-taken.block c.skip-passed.result _ c.skip-passed.ensures c.loop-taken.invariant.0 in
-    let skipped : (run_of (push_byte (terms_of c.args.ring (c.args.uri.now))) (configuration c.args.r c.args.head.now c.args.block.now c.args.question.now) 0 (c.args.piece.now)) ≡ run_of (push_byte (terms_of c.args.ring (c.args.uri.now))) (configuration c.skip-passed.result.reader c.loop-taken.head c.skip-passed.new.block c.loop-taken.question) (c.loop-taken.taken + c.skip-passed.result.taken) (drop (c.loop-taken.taken + c.skip-passed.result.taken) (c.args.piece.now)) = c.loop-taken.invariant.4 ∙ skip_same (terms_of c.args.ring (c.args.uri.now)) (c.args.piece.now) c.loop-taken.taken c.loop-taken.state c.loop-taken.block c.skip-passed.result _ c.skip-passed.ensures c.loop-taken.head c.loop-taken.question in (
-      omega (arith, within),
+    let skipped = c.loop-taken.invariant.4 ∙ skip_same (terms_of c.args.ring c.args.uri.now) c.args.piece.now c.loop-taken.taken _ _ c.skip-passed.result _ c.skip-passed.ensures c.loop-taken.head c.loop-taken.question in
+    let pushed = run_on (terms_of c.args.ring c.args.uri.now) c.args.piece.now (c.loop-taken.taken + c.skip-passed.result.taken) _ c.push-stepped.result _ _ _ c.if-piece-taken.false c.push-stepped.ensures (sym c.goes_on.ensures ∙ c.if-not-goes_on.false) in (
+      omega (arith, skip_within (terms_of c.args.ring c.args.uri.now) c.args.piece.now c.loop-taken.taken _ _ c.skip-passed.result _ c.skip-passed.ensures c.loop-taken.invariant.0),
       c.push-stepped.auto.head ∙ c.loop-taken.invariant.1,
       c.push-stepped.auto.block ∙ c.skip-passed.auto.block ∙ c.loop-taken.invariant.2,
       c.push-stepped.auto.question ∙ c.loop-taken.invariant.3,
-      skipped ∙ run_on (terms_of c.args.ring c.args.uri.now) c.args.piece.now (c.loop-taken.taken + c.skip-passed.result.taken) _ c.push-stepped.result _ _ _ c.if-piece-taken.false c.push-stepped.ensures (sym c.goes_on.ensures ∙ c.if-not-goes_on.false),
+      skipped ∙ pushed,
     )
 
 pub returns : goal.returns
