@@ -3,13 +3,14 @@ use mathlib.Core.Path.{◌≡◌, ap, ◌∙◌}
 use mathlib.Core.Bool.{true, false}
 use mathlib.Core.List.{List, [], ◌∷◌}
 use Prim.Native.Nat.{ℕ, ◌+◌, ◌-◌, ◌≤◌, ◌<◌}
+use native.Mathlib.Omega.{arith}
 use lib.ListN.{length, take, drop}
 use Rattle.stream.specs.Bytes.{same_name}
 use Rattle.stream.specs.Fields.{values_of}
 use Rattle.stream.specs.Lines.{Field, is_field_line, field_of, are_field_lines, fields_of, text_lines}
 use Rattle.stream.proofs.Truth.{left_holds, right_holds}
 use Rattle.text.specs.Line.{line_length}
-use Rattle.text.proofs.LineLaws.{text_none, text_end, text_first}
+use Rattle.text.proofs.LineLaws.{line_within, text_none, text_end, text_first}
 use Rattle.field_lines.specs.Entries.{entry_name, entry_value, entry_field}
 use Rattle.field_lines.specs.Reading.{ReadsField}
 use Rattle.field_lines.specs.declared.line.FieldLine.{FieldLine}
@@ -45,6 +46,9 @@ values_out name s i h = rw (text_none s i h)
 module _ (s : List ℕ) (i e : ℕ) (b : i < length s) (f : e ≡ i + line_length (drop i s)) where
   abbrev line : List ℕ
   line = take (e - i) (drop i s)
+
+  pub line_begun : (e ≡ i → ⊥) → i < e
+  line_begun k = omega (arith, k, line_within s i e b f)
 
   pub values_end : (name : List ℕ) → e ≡ i → values_at name s i ≡ []
   unfolding fields_of values_of
