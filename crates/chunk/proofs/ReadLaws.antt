@@ -15,7 +15,7 @@ use Rattle.base64_text.specs.Decoding.{answered, decoded}
 use Rattle.base64_text.proofs.Laws.{answer_is, buffer_read}
 use Rattle.number.proofs.Forms.{hex_found, hex_missed}
 use Rattle.number.specs.Reading.{hex_read}
-use Rattle.number.specs.declared.Number.TheVariants.{Value, Bad}
+use Rattle.std.specs.Prelude.{Ok, Err}
 use Rattle.octets.specs.Choice.{pick}
 use Rattle.stream.specs.Blocks.{ouisig, ouihash, size_text, extension, is_extension, is_chunk_line, carries_signature, carries_hash, chunk_size, line_signature, line_hash}
 use Rattle.stream.specs.Bytes.{same, is_hex}
@@ -129,13 +129,13 @@ module _ (t : List ℕ) (end : ℕ) (f : end ≡ 0 + length (run (class_of Hex) 
   digits_are : take (end - 0) (drop 0 t) ≡ run is_hex t
   digits_are = rw (sub-zero, digits_end) (sym (run_take is_hex t))
 
-  pub text_sized : (n : ℕ) → hex_read 8 (take (end - 0) (drop 0 t)) ≡ Value n → text_read t ≡ extension_read n (take (length t - end) (drop end t))
+  pub text_sized : (n : ℕ) → hex_read 8 (take (end - 0) (drop 0 t)) ≡ Ok n → text_read t ≡ extension_read n (take (length t - end) (drop end t))
   unfolding text_read
   text_sized n e =
       let w = hex_found 8 (run is_hex t) (lit≤ tt) n (rw digits_are at e) in
       rw (w.0, w.1, rest-is t end, digits_end, past_drop)
 
-  pub text_unsized : (p : ℕ) → hex_read 8 (take (end - 0) (drop 0 t)) ≡ Bad p → text_read t ≡ wrong
+  pub text_unsized : (p : ℕ) → hex_read 8 (take (end - 0) (drop 0 t)) ≡ Err p → text_read t ≡ wrong
   unfolding text_read
   text_unsized p e = rw (hex_missed 8 (run is_hex t) (lit≤ tt) p (rw digits_are at e))
 

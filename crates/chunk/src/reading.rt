@@ -3,7 +3,6 @@ ghost use Rattle.std.specs.Prelude.{◌≡◌};
 ghost use Rattle.chunk.specs.Parts.{wrong as wrongText, carried_read, extension_read, text_read, line_read};
 
 use classes::Class;
-use number::Number;
 
 // The parts of a text that is good; all are zero and false in a text that is not. It carries a signature or a hash, or neither.
 #[derive(Clone, Copy)]
@@ -72,8 +71,8 @@ fn read_text(s: &[u8]) -> ChunkText
 {
     let end = classes::run_end(s, 0, Class::Hex);
     match number::hex(&s[0..end], limits::SIZE_DIGITS) {
-        Number::Value(size) => read_extension(&s[end..], size),
-        Number::Bad(_) => wrong(),
+        Ok(size) => read_extension(&s[end..], size),
+        Err(_) => wrong(),
     }
 }
 

@@ -2,8 +2,6 @@
 ghost use Rattle.std.specs.Prelude.{◌≡◌};
 ghost use Rattle.end_fields.specs.Texts.{digest_of, data_size_of};
 
-use number::Number;
-
 // The bytes are zero where the text is not good.
 #[derive(Clone, Copy)]
 pub struct Digest {
@@ -32,11 +30,11 @@ pub fn read_data_size(value: &[u8]) -> DataSize
     ensures { result ≡ data_size_of value.now }
 {
     match number::decimal(value, limits::DATA_SIZE_DIGITS) {
-        Number::Value(n) => DataSize {
+        Ok(n) => DataSize {
             good: true,
             value: n,
         },
-        Number::Bad(_) => DataSize {
+        Err(_) => DataSize {
             good: false,
             value: 0,
         },

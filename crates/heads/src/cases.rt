@@ -5,7 +5,6 @@ use crate::keys;
 use crate::lines::{say, say_count, say_number};
 use judging::HeadAnswer;
 use limits::HEAD_LIMIT;
-use number::Number;
 use ranges::Extent;
 use refusals::Refusal;
 use ring::KeyRing;
@@ -57,7 +56,7 @@ fn find(s: &[u8], from: usize, byte: u8) -> usize
 fn size(digits: &[u8]) -> usize
     ensures { result ≤ 100000 }
 {
-    let Number::Value(n) = number::decimal(digits, 5) else {
+    let Ok(n) = number::decimal(digits, 5) else {
         return 0;
     };
     if 100000 < n {

@@ -17,18 +17,18 @@ use Rattle.stream.specs.Numbers.{number_from, decimal_digit, hex_digit, is_decim
 use Rattle.number.specs.Digits.{digits, front_from, most_digits, fitting, whole_read}
 use Rattle.number.specs.Reading.{decimal_place, hex_place, count_place, decimal_read, hex_read, count_read}
 use Rattle.number.specs.declared.Digits.{Digits}
-use Rattle.number.specs.declared.Number.TheVariants.{Value, Bad}
+use Rattle.std.specs.Prelude.{Ok, Err}
 use Rattle.number.proofs.Classes.{both, decimal_class, decimal_digit_lem, hex_class, hex_digit_lem}
 use Rattle.number.proofs.Fronts.{run_length, front_is, hex_place_lem, most_within, decimal_place_lem}
 use Rattle.number.proofs.Limits.{count_place_lem, fit_within}
 use Rattle.number.proofs.Places.{decimal_whole, hex_whole, count_whole}
 
 -- the answer for a text of n bytes that goes well up to `at`, where v is the number of the digits in front and w that of the whole text
-answer_is : (good : Bool) (n at v w : ℕ) → good ≡ leb 1 at && leb n at → (n ≤ at → v ≡ w) → pick good (Value w) (Bad at) ≡ whole_read n (digits at v)
+answer_is : (good : Bool) (n at v w : ℕ) → good ≡ leb 1 at && leb n at → (n ≤ at → v ≡ w) → pick good (Ok w) (Err at) ≡ whole_read n (digits at v)
 unfolding whole_read
 answer_is good n at v w e f = rw e (by (leb 1 at && leb n at) refl)
   where
-    by : (t : Bool) → leb 1 at && leb n at ≡ t → pick t (Value w) (Bad at) ≡ pick t (Value v) (Bad at)
+    by : (t : Bool) → leb 1 at && leb n at ≡ t → pick t (Ok w) (Err at) ≡ pick t (Ok v) (Err at)
     by true q = rw (f (leb-true n at (both (leb 1 at) (leb n at) q).1))
     by false q = refl
 

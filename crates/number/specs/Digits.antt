@@ -1,10 +1,8 @@
 -- Digits of any base up to 16, for the one loop that the readers share. No public contract names these. Assumes nothing.
-use Rattle.std.specs.Prelude.{Bool, true, false, ◌&&◌, List, [], ◌∷◌, ℕ, zero, suc, ◌+◌, ◌-◌, ◌*◌, ◌/◌, min, eqb, leb, ltb, get_or}
+use Rattle.std.specs.Prelude.{Bool, true, false, ◌&&◌, List, [], ◌∷◌, ℕ, zero, suc, ◌+◌, ◌-◌, ◌*◌, ◌/◌, min, eqb, leb, ltb, get_or, Result, Ok, Err}
 use Rattle.octets.specs.Choice.{pick}
 use Rattle.stream.specs.Bytes.{is_digit, between}
 use Rattle.number.specs.declared.Digits.{Digits}
-use Rattle.number.specs.declared.Number.{Number}
-use Rattle.number.specs.declared.Number.TheVariants.{Value, Bad}
 
 -- a digit's value, and 16 for a byte that is no hex digit
 unfoldable pub digit_of : ℕ → ℕ
@@ -32,5 +30,5 @@ fitting limit zero value = 0
 fitting limit (suc count) value = elim (leb value limit) [ true ↦ suc count | false ↦ fitting limit count (value / 10) ]
 
 -- a text of so many bytes is a number where it is digits to its end, and has one
-unfoldable pub whole_read : ℕ → Digits → Number
-whole_read length d = pick (leb 1 d.count && leb length d.count) (Value d.value) (Bad d.count)
+unfoldable pub whole_read : ℕ → Digits → Result ℕ ℕ
+whole_read length d = pick (leb 1 d.count && leb length d.count) (Ok d.value) (Err d.count)

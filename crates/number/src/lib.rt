@@ -1,20 +1,14 @@
-// Numbers read from bytes and written as bytes. A reader takes any slice: what is no number of the form is Bad, with the length of its longest
-// beginning that some number of the form also has.
+// Numbers read from bytes and written as bytes. A reader takes any slice: of what is no number of the form, Err says how long its longest
+// beginning is that some number of the form also has.
 #![tactic(auto)]
 
-ghost use Rattle.std.specs.Prelude.{◌≡◌, ℕ, ◌^◌, ◌≤◌, min, length};
+ghost use Rattle.std.specs.Prelude.{◌≡◌, ℕ, ◌^◌, ◌≤◌, min, length, Err};
 ghost use Rattle.octets.specs.Viable.{LongestViable};
 ghost use Rattle.stream.specs.GoodText.{is_count};
 ghost use Rattle.stream.specs.Numbers.{is_decimal, is_hex_number, decimal as decimalText};
 ghost use Rattle.number.specs.Reading.{decimal_read, hex_read, count_read};
 ghost use Rattle.number.specs.Writing.{written, decimal_written};
 ghost use Rattle.number.specs.Digits.{digit_of, front_from, most_digits, fitting, whole_read};
-
-#[derive(Clone, Copy)]
-pub enum Number {
-    Value(u64),
-    Bad(usize),
-}
 
 // How many digits stand in front of a text, and the number that they write.
 #[derive(Clone, Copy)]
@@ -24,17 +18,17 @@ struct Digits {
 }
 
 // A decimal number of at most `most` digits, and at most 19, with no zero in front.
-pub fn decimal(s: &[u8], most: usize) -> Number
+pub fn decimal(s: &[u8], most: usize) -> Result<u64, usize>
     ensures answers { result ≡ decimal_read most s.now }
-    ensures exactly { (p : ℕ) → 1 ≤ most → result ≡ Number.Bad p → LongestViable (is_decimal (min most 19)) s.now p }
+    ensures exactly { (p : ℕ) → 1 ≤ most → result ≡ Err p → LongestViable (is_decimal (min most 19)) s.now p }
 {
     whole(s.len(), front(s, 10, most_digits(s, most, 1)))
 }
 
 // Such a number from 1 to the limit.
-pub fn count(s: &[u8], most: usize, limit: u64) -> Number
+pub fn count(s: &[u8], most: usize, limit: u64) -> Result<u64, usize>
     ensures answers { result ≡ count_read most limit s.now }
-    ensures exactly { (p : ℕ) → 1 ≤ most → 1 ≤ limit → result ≡ Number.Bad p → LongestViable (is_count (min most 19) limit) s.now p }
+    ensures exactly { (p : ℕ) → 1 ≤ most → 1 ≤ limit → result ≡ Err p → LongestViable (is_count (min most 19) limit) s.now p }
 {
     let d = front(s, 10, most_digits(s, most, 0));
     let count = fit(d.count, d.value, limit);
@@ -43,21 +37,21 @@ pub fn count(s: &[u8], most: usize, limit: u64) -> Number
 }
 
 // A hex number of at most `most` digits, and at most 16, of either case.
-pub fn hex(s: &[u8], most: usize) -> Number
+pub fn hex(s: &[u8], most: usize) -> Result<u64, usize>
     ensures answers { result ≡ hex_read most s.now }
-    ensures exactly { (p : ℕ) → 1 ≤ most → result ≡ Number.Bad p → LongestViable (is_hex_number (min most 16)) s.now p }
+    ensures exactly { (p : ℕ) → 1 ≤ most → result ≡ Err p → LongestViable (is_hex_number (min most 16)) s.now p }
 {
     whole(s.len(), front(s, 16, places::least(most, 16)))
 }
 
 // The number of a text of so many bytes: it is digits to its end, and has one.
-fn whole(length: usize, d: Digits) -> Number
+fn whole(length: usize, d: Digits) -> Result<u64, usize>
     ensures { result ≡ whole_read length d }
 {
     if (1 <= d.count) & (length <= d.count) {
-        return Number::Value(d.value);
+        return Ok(d.value);
     }
-    Number::Bad(d.count)
+    Err(d.count)
 }
 
 // How many digits of a decimal may be taken: at most 19, and where the first is 0, no more than `zeros`.

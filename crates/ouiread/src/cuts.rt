@@ -1,6 +1,5 @@
 // The lengths of the pieces, one a line, used in turn and again from the first.
 use crate::lines::{cut_off, following};
-use number::Number;
 
 const PIECE_LIMIT: u64 = 65536;
 
@@ -14,7 +13,7 @@ pub struct Cut {
 }
 
 fn is_length(line: &[u8]) -> bool {
-    let Number::Value(n) = number::decimal(line, 5) else {
+    let Ok(n) = number::decimal(line, 5) else {
         return false;
     };
     n <= PIECE_LIMIT
@@ -53,7 +52,7 @@ fn faulty(zeros: bool, line: u64) -> u64 {
 }
 
 fn length_of(line: &[u8]) -> usize {
-    let Number::Value(n) = number::decimal(line, 5) else {
+    let Ok(n) = number::decimal(line, 5) else {
         return 0;
     };
     n as usize

@@ -1,7 +1,6 @@
 // The key ring: a record a line, with a key and the first and the last second at which it is trusted, one space between.
 use crate::lines::{cut_off, following};
 use limits::RING_LIMIT;
-use number::Number;
 use ring::{KeyRecord, KeyRing};
 
 // The ring, or else the number of the line that is no record, or one too many.
@@ -31,10 +30,10 @@ enum Moment {
 
 // A second of 20 digits, in two parts: it is below 2^64.
 fn long_second(s: &[u8]) -> Moment {
-    let Number::Value(n) = number::decimal(places::part(s, 0, 19), 19) else {
+    let Ok(n) = number::decimal(places::part(s, 0, 19), 19) else {
         return Moment::Wrong;
     };
-    let Number::Value(d) = number::decimal(places::part(s, 19, 20), 1) else {
+    let Ok(d) = number::decimal(places::part(s, 19, 20), 1) else {
         return Moment::Wrong;
     };
     if LARGEST_TENTH < n {
@@ -64,7 +63,7 @@ fn second(s: &[u8]) -> Moment {
     if s.len() == 20 {
         return long_second(s);
     }
-    let Number::Value(n) = number::decimal(s, 19) else {
+    let Ok(n) = number::decimal(s, 19) else {
         return Moment::Wrong;
     };
     Moment::At(n)

@@ -6,7 +6,6 @@ ghost use Rattle.params.specs.BlockSigs.{bsigs_of};
 
 use crate::parts;
 use classes::Class;
-use number::Number;
 
 // All is zero where the value is not good.
 #[derive(Clone, Copy)]
@@ -51,11 +50,11 @@ fn judge(key: &[u8], size: &[u8]) -> Bsigs
         return no_bsigs();
     }
     match number::count(size, limits::BLOCK_DIGITS, limits::BLOCK_LIMIT as u64) {
-        Number::Value(n) => Bsigs {
+        Ok(n) => Bsigs {
             good: true,
             key: bytes,
             size: n as usize,
         },
-        Number::Bad(_) => no_bsigs(),
+        Err(_) => no_bsigs(),
     }
 }

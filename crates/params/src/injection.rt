@@ -6,7 +6,6 @@ ghost use Rattle.params.specs.Injection.{injection_of, padded};
 
 use crate::parts;
 use classes::Class;
-use number::Number;
 
 // The first `id_length` bytes of `id` are the id. All is zero where the value is not good.
 #[derive(Clone, Copy)]
@@ -56,13 +55,13 @@ fn judge(id: &[u8], time: &[u8]) -> Injection
         return no_injection();
     }
     match number::decimal(time, limits::TIME_DIGITS) {
-        Number::Value(seconds) => Injection {
+        Ok(seconds) => Injection {
             good: true,
             id_length: id.len(),
             id: fill(id),
             time: seconds,
         },
-        Number::Bad(_) => no_injection(),
+        Err(_) => no_injection(),
     }
 }
 

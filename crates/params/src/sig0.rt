@@ -8,7 +8,6 @@ ghost use Rattle.params.specs.Parts.{Inside, run_bytes};
 use crate::parts;
 use crate::parts::Run;
 use classes::Class;
-use number::Number;
 
 // The time `created` and the names lie in the value from their start up to their end. All is zero where the value is not good.
 #[derive(Clone, Copy)]
@@ -86,7 +85,7 @@ fn judge(value: &[u8], key: Run, created: Run, names: Run, signature: Run) -> Si
         return no_sig0();
     }
     match number::decimal(parts::bytes_of(value, created), limits::TIME_DIGITS) {
-        Number::Value(_) => Sig0 {
+        Ok(_) => Sig0 {
             good: true,
             key: key_bytes,
             signature: signature_bytes,
@@ -95,6 +94,6 @@ fn judge(value: &[u8], key: Run, created: Run, names: Run, signature: Run) -> Si
             names_start: names.start,
             names_end: names.end,
         },
-        Number::Bad(_) => no_sig0(),
+        Err(_) => no_sig0(),
     }
 }

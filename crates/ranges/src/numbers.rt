@@ -3,7 +3,6 @@ ghost use Rattle.std.specs.Prelude.{◌≡◌};
 ghost use Rattle.ranges.specs.Reading.{number_after, no_number};
 
 use classes::Class;
-use number::Number;
 
 // The number, and the place after its last digit. All is zero where the text or a number is not there.
 #[derive(Clone, Copy)]
@@ -22,12 +21,12 @@ pub(crate) fn number_after(value: &[u8], at: usize, mark: &[u8]) -> Numbered
     let start = at + mark.len();
     let next = classes::run_end(value, start, Class::Digit);
     match number::decimal(places::part(value, start, next), limits::TIME_DIGITS) {
-        Number::Value(number) => Numbered {
+        Ok(number) => Numbered {
             good: true,
             number,
             next,
         },
-        Number::Bad(_) => no_number(),
+        Err(_) => no_number(),
     }
 }
 

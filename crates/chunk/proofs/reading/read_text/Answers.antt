@@ -15,8 +15,8 @@ slice_bounds-read_extension-start c =
     let h = digits_within _ _ c.run_end-end.ensures in
     search rules
 
-pub returns-in-Value : goal.returns-in-Value
-returns-in-Value c = c.read_extension.ensures ∙ sym (text_sized _ _ c.run_end-end.ensures _ (sym c.hex.ensures.answers ∙ c.in-Value.is))
+pub returns-in-Ok : goal.returns-in-Ok
+returns-in-Ok c = c.read_extension.ensures ∙ sym (text_sized _ _ c.run_end-end.ensures _ (sym c.hex.ensures.answers ∙ c.in-Ok.is))
 
-pub returns-in-Bad : goal.returns-in-Bad
-returns-in-Bad c = c.wrong.ensures ∙ sym (text_unsized _ _ c.run_end-end.ensures _ (sym c.hex.ensures.answers ∙ c.in-Bad.is))
+pub returns-in-Err : goal.returns-in-Err
+returns-in-Err c = c.wrong.ensures ∙ sym (text_unsized _ _ c.run_end-end.ensures _ (sym c.hex.ensures.answers ∙ c.in-Err.is))

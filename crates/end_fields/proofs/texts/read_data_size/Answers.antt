@@ -5,8 +5,8 @@ use Rattle.number.proofs.Forms.{decimal_found, decimal_missed}
 use Rattle.end_fields.proofs.TextLaws.{size_good_lem, size_bad}
 use Rattle.end_fields.proofs.texts.read_data_size.Goals as goal
 
-pub returns-in-Value : goal.returns-in-Value
-returns-in-Value c = size_good_lem _ _ (decimal_found 10 _ (lit≤ tt) _ (sym c.decimal.ensures.answers ∙ c.in-Value.is))
+pub returns-in-Ok : goal.returns-in-Ok
+returns-in-Ok c = size_good_lem _ _ (decimal_found 10 _ (lit≤ tt) _ (sym c.decimal.ensures.answers ∙ c.in-Ok.is))
 
-pub returns-in-Bad : goal.returns-in-Bad
-returns-in-Bad c = size_bad _ (decimal_missed 10 _ (lit≤ tt) _ (sym c.decimal.ensures.answers ∙ c.in-Bad.is))
+pub returns-in-Err : goal.returns-in-Err
+returns-in-Err c = size_bad _ (decimal_missed 10 _ (lit≤ tt) _ (sym c.decimal.ensures.answers ∙ c.in-Err.is))

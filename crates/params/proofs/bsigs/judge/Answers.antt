@@ -9,12 +9,12 @@ use Rattle.params.proofs.bsigs.judge.Goals as goal
 pub returns-then-not-key : goal.returns-then-not-key
 returns-then-not-key c = c.no_bsigs.ensures ∙ sym (key_bad _ _ (sym (answer_is 32 _ _ c.key.ensures) ∙ c.if-not-key.true))
 
-pub returns-in-Value : goal.returns-in-Value
-returns-in-Value c =
+pub returns-in-Ok : goal.returns-in-Ok
+returns-in-Ok c =
     let k = c.key.ensures in
     let t = sym (answer_is 32 _ _ k) ∙ c.if-not-key.false in
-    let f = count_found 5 65536 _ (lit≤ tt) _ (sym c.count.ensures.answers ∙ c.in-Value.is) in
+    let f = count_found 5 65536 _ (lit≤ tt) _ (sym c.count.ensures.answers ∙ c.in-Ok.is) in
     rw (buffer_read 32 _ _ k t, f.1) (sym (bsigs_good _ _ t f.0))
 
-pub returns-in-Bad : goal.returns-in-Bad
-returns-in-Bad c = c.no_bsigs-in-Bad.ensures ∙ sym (size_bad _ _ (count_missed 5 65536 _ (lit≤ tt) _ (sym c.count.ensures.answers ∙ c.in-Bad.is)))
+pub returns-in-Err : goal.returns-in-Err
+returns-in-Err c = c.no_bsigs-in-Err.ensures ∙ sym (size_bad _ _ (count_missed 5 65536 _ (lit≤ tt) _ (sym c.count.ensures.answers ∙ c.in-Err.is)))

@@ -11,10 +11,10 @@ returns-then-id-lt1 c = c.no_injection.ensures ∙ sym (id_missing _ _ c.if-id-l
 pub returns-then-id-gt-ID_LIMIT : goal.returns-then-id-gt-ID_LIMIT
 returns-then-id-gt-ID_LIMIT c = c.no_injection-then-id-gt-ID_LIMIT.ensures ∙ sym (id_long _ _ c.if-id-gt-ID_LIMIT.true)
 
-pub returns-in-Value : goal.returns-in-Value
-returns-in-Value c =
-    let f = decimal_found 12 _ (lit≤ tt) _ (sym c.decimal.ensures.answers ∙ c.in-Value.is) in
+pub returns-in-Ok : goal.returns-in-Ok
+returns-in-Ok c =
+    let f = decimal_found 12 _ (lit≤ tt) _ (sym c.decimal.ensures.answers ∙ c.in-Ok.is) in
     rw (c.fill.ensures, f.1) (sym (injection_good _ _ c.if-id-lt1.false c.if-id-gt-ID_LIMIT.false f.0))
 
-pub returns-in-Bad : goal.returns-in-Bad
-returns-in-Bad c = c.no_injection-in-Bad.ensures ∙ sym (time_bad _ _ (decimal_missed 12 _ (lit≤ tt) _ (sym c.decimal.ensures.answers ∙ c.in-Bad.is)))
+pub returns-in-Err : goal.returns-in-Err
+returns-in-Err c = c.no_injection-in-Err.ensures ∙ sym (time_bad _ _ (decimal_missed 12 _ (lit≤ tt) _ (sym c.decimal.ensures.answers ∙ c.in-Err.is)))

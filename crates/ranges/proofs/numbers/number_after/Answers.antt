@@ -13,16 +13,16 @@ returns-then-not-starts_with c = c.no_number.ensures ∙ sym (unmarked _ _ _ (sy
 pub overflow_add-start : goal.overflow_add-start
 overflow_add-start c = record { fits = omega (arith, marked_fits c.args.value.now c.args.at c.args.mark.now (sym c.starts_with.ensures ∙ c.if-not-starts_with.false)) }
 
-pub returns-in-Value : goal.returns-in-Value
+pub returns-in-Ok : goal.returns-in-Ok
 unfolding class_of
-returns-in-Value c =
+returns-in-Ok c =
     number_read c.args.value.now c.args.at c.args.mark.now c.run_end-next.ensures c.part.ensures
     (sym c.starts_with.ensures ∙ c.if-not-starts_with.false)
-    (decimal_found 12 _ (lit≤ tt) _ (sym c.decimal.ensures.answers ∙ c.in-Value.is))
+    (decimal_found 12 _ (lit≤ tt) _ (sym c.decimal.ensures.answers ∙ c.in-Ok.is))
 
-pub returns-in-Bad : goal.returns-in-Bad
+pub returns-in-Err : goal.returns-in-Err
 unfolding class_of
-returns-in-Bad c =
-    c.no_number-in-Bad.ensures
+returns-in-Err c =
+    c.no_number-in-Err.ensures
     ∙ number_bad c.args.value.now c.args.at c.args.mark.now c.run_end-next.ensures c.part.ensures
-    (decimal_missed 12 _ (lit≤ tt) _ (sym c.decimal.ensures.answers ∙ c.in-Bad.is))
+    (decimal_missed 12 _ (lit≤ tt) _ (sym c.decimal.ensures.answers ∙ c.in-Err.is))
