@@ -3,8 +3,8 @@
 use mathlib.Core.Path.{◌≡◌, refl, sym, ap, ◌∙◌}
 use mathlib.Core.Bool.{Bool, true, false}
 use mathlib.Core.List.{List, [], ◌∷◌, ◌++◌}
-use Prim.Native.Nat.{ℕ, zero, suc, ◌+◌, ◌*◌, ◌/◌, ◌%◌, ◌^◌, ◌≤◌, ◌<◌}
-use native.Mathlib.Nat.{pow-suc, not-suc-le-zero, lt_of_lt_of_le}
+use Prim.Native.Nat.{ℕ, zero, suc, ◌+◌, ◌*◌, ◌/◌, ◌%◌, ◌^◌, ◌≤◌, ◌<◌, max}
+use native.Mathlib.Nat.{pow-suc, pow-le-pow_right, not-suc-le-zero, lt_of_lt_of_le}
 use native.Mathlib.Omega.{arith}
 use borrow.Author.Tests.{lt-ltb, le-ltb, ltb-true, ltb-false}
 use lib.Dec.{ltb, lit≤}
@@ -107,5 +107,35 @@ few_digits (suc k) n h = by_size (ltb n 10) refl (λ g. few_digits k (n / 10) (d
 pub twenty_digits : (n : ℕ) → n < 2 ^ 64 → length (decimal n) ≤ 20
 twenty_digits n h = few_digits 19 n (lt_of_lt_of_le h (lit≤ tt))
 
-pub ten_digits : (n : ℕ) → n < 10 ^ 10 → length (decimal n) ≤ 10
-ten_digits n h = few_digits 9 n h
+-- one more than the logarithm, where that of 0 is taken as that of 1
+pub digits_are : (k n : ℕ) → 10 ^ k ≤ max n 1 → max n 1 < 10 * 10 ^ k → k + 1 ≡ length (decimal n)
+digits_are zero n h g = omega (arith, length_small n (omega arith))
+digits_are (suc k) n h g =
+    let p = pow-suc 10 k in
+    let q : 10 ^ 0 ≤ 10 ^ k = pow-le-pow_right {n = 10} (omega arith) {i = 0} (omega arith) in
+    omega (arith, length_large n (omega arith), digits_are k (n / 10) (omega arith) (omega arith))
+
+-- the last k digits of a number, first to last
+unfoldable pub last_digits : ℕ → ℕ → List ℕ
+last_digits zero n = []
+last_digits (suc k) n = last_digits k (n / 10) ++ ((48 + n % 10) ∷ [])
+
+pub length_last : (k n : ℕ) → length (last_digits k n) ≡ k
+unfolding last_digits
+length_last zero n = refl
+length_last (suc k) n = omega (arith, length-append (last_digits k (n / 10)) ((48 + n % 10) ∷ []), length_last k (n / 10))
+
+-- all of them
+one_digit : (n : ℕ) → n < 10 → (48 + n) ∷ [] ≡ last_digits 1 n
+unfolding last_digits
+one_digit n h = let e : n % 10 ≡ n = omega arith in rw e
+
+more_digits : (n : ℕ) (l : List ℕ) → l ≡ last_digits (length l) (n / 10) → l ++ ((48 + n % 10) ∷ []) ≡ last_digits (length (l ++ ((48 + n % 10) ∷ []))) n
+unfolding last_digits
+more_digits n l r =
+    let e : length (l ++ ((48 + n % 10) ∷ [])) ≡ suc (length l) = omega (arith, length-append l ((48 + n % 10) ∷ [])) in
+    rw (e, last_digits) (ap (λ (l : List ℕ). l ++ ((48 + n % 10) ∷ [])) r)
+
+pub decimal_last : (n : ℕ) → decimal n ≡ last_digits (length (decimal n)) n
+unfolding last_digits
+decimal_last = decimal_cases (λ n l. l ≡ last_digits (length l) n) one_digit (λ n h r. more_digits n (decimal (n / 10)) r)

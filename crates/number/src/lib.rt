@@ -41,7 +41,7 @@ pub fn hex(s: &[u8], most: usize) -> Result<u64, usize>
     ensures answers { result ≡ hex_read most s.now }
     ensures exactly { (p : ℕ) → 1 ≤ most → result ≡ Err p → LongestViable (is_hex_number (min most 16)) s.now p }
 {
-    whole(s.len(), front(s, 16, places::least(most, 16)))
+    whole(s.len(), front(s, 16, most.min(16)))
 }
 
 // The number of a text of so many bytes: it is digits to its end, and has one.
@@ -58,9 +58,9 @@ fn whole(length: usize, d: Digits) -> Result<u64, usize>
 fn most_digits(s: &[u8], most: usize, zeros: usize) -> usize
     ensures { result ≡ most_digits (min most 19) zeros s.now }
 {
-    let all = places::least(most, 19);
+    let all = most.min(19);
     if places::byte_at(s, 0) == b'0' {
-        return places::least(all, zeros);
+        return all.min(zeros);
     }
     all
 }
@@ -70,17 +70,16 @@ fn front(s: &[u8], base: u64, most: usize) -> Digits
     requires { base ^ most ≤ 2 ^ 64 }
     ensures { result ≡ front_from base most 0 0 s.now }
 {
-    let end = places::least(s.len(), most);
-    let mut value: u64 = 0;
-    let mut count = 0;
-    while count < end {
-        let d = digit(s[count]);
+    let most_read = &s[..s.len().min(most)];
+    let mut value = 0;
+    for (count, b) in most_read.iter().enumerate() {
+        let d = digit(*b);
         if base <= d {
             return Digits { count, value };
         }
         value = value * base + d;
-        count += 1;
     }
+    let count = most_read.len();
     Digits { count, value }
 }
 
@@ -89,15 +88,13 @@ fn fit(count: usize, value: u64, limit: u64) -> usize
     ensures { result ≡ fitting limit count value }
 {
     let mut left = value;
-    let mut n = count;
-    while limit < left {
-        if n == 0 {
-            return 0;
+    for n in (1..=count).rev() {
+        if left <= limit {
+            return n;
         }
-        left = left / 10;
-        n -= 1;
+        left /= 10;
     }
-    n
+    0
 }
 
 // A digit's value in any base that has it, and 16 for a byte that is no hex digit.
@@ -105,17 +102,11 @@ fn digit(b: u8) -> u64
     ensures { result ≡ digit_of b }
 {
     match b {
-        b'0'..=b'9' => wide(b - b'0'),
-        b'A'..=b'F' => wide(b - b'A') + 10,
-        b'a'..=b'f' => wide(b - b'a') + 10,
+        b'0'..=b'9' => u64::from(b - b'0'),
+        b'A'..=b'F' => u64::from(b - b'A') + 10,
+        b'a'..=b'f' => u64::from(b - b'a') + 10,
         _ => 16,
     }
-}
-
-fn wide(b: u8) -> u64
-    ensures { result ≡ b }
-{
-    b as u64
 }
 
 // Writes n in decimal from index `at` on and returns how many bytes that took: none where it does not fit whole.
@@ -130,13 +121,10 @@ pub fn write_decimal(out: &mut [u8], at: usize, n: u64) -> usize
         return 0;
     }
     let mut left = n;
-    let mut i = at + count - 1;
-    while 10 <= left {
-        out[i] = b'0' + (left % 10) as u8;
-        left = left / 10;
-        i -= 1;
+    for i in (0..count).rev() {
+        out[at + i] = b'0' + (left % 10) as u8;
+        left /= 10;
     }
-    out[i] = b'0' + left as u8;
     count
 }
 
@@ -144,11 +132,5 @@ pub fn write_decimal(out: &mut [u8], at: usize, n: u64) -> usize
 fn width(n: u64) -> usize
     ensures { result ≡ length (decimalText n) }
 {
-    let mut left = n;
-    let mut count = 1;
-    while 10 <= left {
-        left = left / 10;
-        count += 1;
-    }
-    count
+    n.max(1).ilog10() as usize + 1
 }

@@ -7,30 +7,28 @@ use Rattle.number.specs.Digits.{fitting}
 use Rattle.number.proofs.fit.Goals as goal
 
 module _ (limit : ℕ) where
-  fit_none : (n v : ℕ) → n ≡ 0 → fitting limit n v ≡ 0
+  fit_none : (n v : ℕ) → n < 1 → 0 ≡ fitting limit n v
   unfolding fitting
-  fit_none n v e = rw e
+  fit_none zero v e = refl
+  fit_none (suc n) v e = absurd (omega arith)
 
-  fit_more : (n v : ℕ) → (n ≡ 0 → ⊥) → limit < v → fitting limit n v ≡ fitting limit (n - 1) (v / 10)
+  fit_more : (n v : ℕ) → 1 ≤ n → limit < v → fitting limit n v ≡ fitting limit (n - 1) (v / 10)
   unfolding fitting
-  fit_more zero v h k = absurd (h refl)
+  fit_more zero v h k = absurd (omega arith)
   fit_more (suc n) v h k =
       let e : suc n - 1 ≡ n = omega arith in
       rw (e, lt-leb v limit k, fitting)
 
-  fit_all : (n v : ℕ) → v ≤ limit → fitting limit n v ≡ n
+  fit_all : (n v : ℕ) → v ≤ limit → n ≡ fitting limit n v
   unfolding fitting
   fit_all zero v k = refl
   fit_all (suc n) v k = rw (le-leb v limit k, fitting)
 
-pub loop-left-init : goal.loop-left-init
-loop-left-init c = refl
+pub returns-then-left-limit : goal.returns-then-left-limit
+returns-then-left-limit c = fit_all _ _ _ c.if-left-limit.true ∙ sym c.loop-n.invariant
 
-pub returns-then-n-eq0 : goal.returns-then-n-eq0
-returns-then-n-eq0 c = sym (c.loop-left.invariant ∙ fit_none _ _ _ c.if-n-eq0.true)
-
-pub loop-left-preserved : goal.loop-left-preserved
-loop-left-preserved c = c.loop-left.invariant ∙ fit_more _ _ _ c.if-n-eq0.false c.loop-left-test.true
+pub loop-n-preserved : goal.loop-n-preserved
+loop-n-preserved c = c.loop-n.invariant ∙ fit_more _ _ _ (omega arith) c.if-left-limit.false
 
 pub returns : goal.returns
-returns c = sym (c.loop-left.invariant ∙ fit_all _ _ _ c.loop-left-test.false)
+returns c = fit_none _ _ _ (omega arith) ∙ sym c.loop-n.invariant

@@ -3,8 +3,5 @@ use mathlib.Core.Path.{◌≡◌}
 use Rattle.number.specs.Digits.{fitting}
 use Rattle.number.proofs.fit.Given as goal
 
-abbrev pub invariant-loop-left : goal.invariant-loop-left
-invariant-loop-left l = fitting l.limit l.count l.value ≡ fitting l.limit l.n l.left
-
-abbrev pub decreases-loop-left : goal.decreases-loop-left
-decreases-loop-left l = l.n
+abbrev pub invariant-loop-n : goal.invariant-loop-n
+invariant-loop-n l = fitting l.limit l.count l.value ≡ fitting l.limit l.n l.left

@@ -11,5 +11,5 @@ front-requires c = fits 16 16 _ (lit< tt) (lit≤ tt) (omega arith)
 
 pub returns : goal.returns
 returns c =
-    let e = c.whole.ensures ∙ hex_is _ _ _ _ c.least.ensures c.front.ensures in
+    let e = c.whole.ensures ∙ hex_is _ _ _ _ c.min.ensures c.front.ensures in
     record { answers = e; exactly = hex_exactly _ _ e }

@@ -17,7 +17,7 @@ module _ (most none b : ℕ) (l : List ℕ) (e : b ≡ get_or l 0 0) where
   most_other h = rw (← e, ne_eqb b 48 h)
 
 pub returns-then-byte_at-eq48 : goal.returns-then-byte_at-eq48
-returns-then-byte_at-eq48 c = c.least.ensures ∙ rw c.least-all.ensures (sym (most_zero _ _ _ _ c.byte_at.ensures c.if-byte_at-eq48.true))
+returns-then-byte_at-eq48 c = c.min.ensures ∙ rw c.min-all.ensures (sym (most_zero _ _ _ _ c.byte_at.ensures c.if-byte_at-eq48.true))
 
 pub returns : goal.returns
-returns c = c.least-all.ensures ∙ sym (most_other _ _ _ _ c.byte_at.ensures c.if-byte_at-eq48.false)
+returns c = c.min-all.ensures ∙ sym (most_other _ _ _ _ c.byte_at.ensures c.if-byte_at-eq48.false)
