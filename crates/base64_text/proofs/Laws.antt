@@ -2,7 +2,7 @@
 use borrow.Author.Tests.{eqb-true, leb-true}
 use mathlib.Core.Bool.{Bool, true, false, ◌&&◌}
 use mathlib.Core.List.{List}
-use mathlib.Core.Path.{◌≡◌, refl, sym, ap, ◌∙◌}
+use mathlib.Core.Path.{◌≡◌, refl, ap, ◌∙◌}
 use Prim.Native.Nat.{ℕ, zero, suc, ◌*◌, ◌<◌}
 use native.Mathlib.Omega.{arith}
 use lib.Dec.{eqb, leb}
@@ -10,8 +10,7 @@ use lib.ListN.{length, get_or, drop, length-drop}
 use Rattle.octets.specs.Choice.{pick}
 use Rattle.base64_text.specs.Base64.{first4, holds_one, holds_two, holds_three, is_base64, base64_bytes}
 use Rattle.base64_text.specs.Decoding.{Decoded, answered, decoded}
-use Rattle.base64_text.specs.Places.{groups, checked}
-use Rattle.places.specs.declared.Checked.{Checked}
+use Rattle.base64_text.specs.Places.{groups}
 use Rattle.base64_text.proofs.Computed.{both_left, both_right}
 
 -- n bytes are n bytes
@@ -56,17 +55,6 @@ decoded_text n t buffer h = rw h
 decoded_other : (n : ℕ) (t buffer : List ℕ) → is_base64 n t ≡ false → decoded n t buffer ≡ answered false buffer
 unfolding decoded
 decoded_other n t buffer h = rw h
-
--- decoding, by what a check of the text answered
-module _ (n : ℕ) (t : List ℕ) {r : Checked} (said : r ≡ checked n t) where
-  pub is_good : r.good ≡ true → is_base64 n t ≡ true
-  is_good h = sym (ap (λ (c : Checked). c.good) said) ∙ h
-
-  pub good_read : (before : List ℕ) {after : List ℕ} → r.good ≡ true → after ≡ base64_bytes n t → answered true after ≡ decoded n t before
-  good_read before h e = ap (answered true) e ∙ sym (decoded_text n t before (is_good h))
-
-  pub other_kept : (before : List ℕ) → r.good ≡ false → answered false before ≡ decoded n t before
-  other_kept before h = sym (decoded_other n t before (sym (ap (λ (c : Checked). c.good) said) ∙ h))
 
 -- what a caller learns of the answer and the buffer from a contract, `answered ok after ≡ decoded n t before`
 module _ (n : ℕ) (t before : List ℕ) {ok : Bool} {after : List ℕ} (said : answered ok after ≡ decoded n t before) where

@@ -1,12 +1,12 @@
 -- The value of a letter as the code finds it, by ranges of bytes, is its place in the alphabet. Assumes nothing.
-use borrow.Author.Tests.{leb-true, eqb-true}
-use mathlib.Core.Bool.{Bool, true, ◌&&◌}
+use borrow.Author.Tests.{eqb-true}
+use mathlib.Core.Bool.{Bool}
 use mathlib.Core.Path.{◌≡◌, refl}
-use Prim.Native.Nat.{ℕ, ◌≤◌, ◌<◌}
-use lib.Dec.{eqb, leb}
+use Prim.Native.Nat.{ℕ, ◌<◌}
+use lib.Dec.{eqb}
 use Rattle.base64_text.specs.Base64.{letter_value}
 use Rattle.base64_text.specs.Groups.{in_range}
-use Rattle.base64_text.proofs.Computed.{both_left, below}
+use Rattle.base64_text.proofs.Computed.{below}
 
 abbrev pub by_range : ℕ → ℕ
 by_range b = in_range b 65 90 0 (in_range b 97 122 26 (in_range b 48 57 52 (in_range b 43 43 62 (in_range b 47 47 63 64))))
@@ -18,7 +18,3 @@ by_range_is b = eqb (by_range b) (letter_value b)
 pub range_value : (b : ℕ) → b < 256 → by_range b ≡ letter_value b
 unfolding by_range_is letter_value
 range_value b h = eqb-true _ _ (below by_range_is 256 refl b h)
-
--- a byte in a range is not below it
-pub from_low : (low high b : ℕ) → (leb low b && leb b high) ≡ true → low ≤ b
-from_low low high b h = leb-true low b (both_left (leb low b) (leb b high) h)

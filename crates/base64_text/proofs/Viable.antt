@@ -12,8 +12,7 @@ use lib.Seq.{length-take-le}
 use Rattle.octets.specs.Viable.{LongestViable}
 use Rattle.base64_text.specs.Base64.{first4, is_base64, text_of}
 use Rattle.base64_text.specs.Groups.{standing_of}
-use Rattle.base64_text.specs.Places.{groups, bytes_before, bytes_left, stands_in, may_stand, standing_from, viable_length, checked}
-use Rattle.places.specs.declared.Checked.{Checked}
+use Rattle.base64_text.specs.Places.{groups, bytes_before, bytes_left, stands_in, may_stand, standing_from, viable_length}
 use Rattle.base64_text.proofs.Computed.{both_left, both_right}
 use Rattle.base64_text.proofs.Laws.{text_length}
 use Rattle.base64_text.proofs.Texts.{stands4, stand_next, stand_none, stands_lead, text_by_groups, stands_to, stands_past, stands_ended, holds_on, long_enough}
@@ -233,7 +232,3 @@ module _ (n : ℕ) (t : List ℕ) where
         viable = record { rest = completion; bytes = drop_bytes at (zeros_text n) (zeros_text_bytes n); completes = completes };
         longest = λ m h v. stands_least n m t h (stands_first n 0 (take m t) v.rest (good_whole (take m t ++ v.rest) v.completes));
       }
-
-  -- as a contract has it
-  pub checked_exactly : {r : Checked} → r ≡ checked n t → LongestViable (is_base64 n) t r.at
-  checked_exactly e = rw e viable_longest

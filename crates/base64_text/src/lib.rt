@@ -1,12 +1,12 @@
 // Base64 with padding (RFC 4648, section 4), of a number of bytes that is known beforehand, read a group of four characters at a turn.
 #![tactic(auto)]
 
-ghost use Rattle.std.specs.Prelude.{true, ◌≡◌, ◌<◌, length, set};
+ghost use Rattle.std.specs.Prelude.{true, ◌≡◌, ◌<◌, length, set, SomeIff};
 ghost use Rattle.octets.specs.Viable.{LongestViable};
 ghost use Rattle.base64_text.specs.Base64.{letter_value, is_base64, base64_bytes};
 ghost use Rattle.base64_text.specs.Places.{stands_as, checked};
 ghost use Rattle.base64_text.specs.Groups.{in_range, group_of};
-ghost use Rattle.base64_text.specs.Decoding.{answered, decoded};
+ghost use Rattle.base64_text.specs.Decoding.{answered, decoded, read_as};
 
 use places::Checked;
 
@@ -29,6 +29,7 @@ fn in_range(b: u8, low: u8, high: u8, base: u32, other: u32) -> u32
 }
 
 // A letter's value, and 64 for any other byte. All five tests are made of each byte: which of them a letter meets cannot be foreseen.
+#[tactic(auto, using(crate::proofs::Letters::range_value))]
 pub fn value(b: u8) -> u32
     ensures { result ≡ letter_value b }
 {
@@ -40,6 +41,7 @@ pub fn value(b: u8) -> u32
 }
 
 // Whether byte b, whose value is v, may stand at place k of a group where so many bytes are left.
+#[tactic(auto, unfolding(crate::specs::Places::stands_as))]
 fn may_stand(left: usize, k: usize, b: u8, v: u32) -> bool
     ensures { result ≡ stands_as left k b v }
 {
@@ -123,16 +125,17 @@ fn read(text: &[u8], n: usize, out: &mut [u8]) -> Checked
 }
 
 // Whether text is the base64 of n bytes, and how many of its first characters some base64 of n bytes also has.
+#[tactic(auto, using(crate::proofs::Viable::viable_longest))]
 pub fn check(text: &[u8], n: usize) -> Checked
     ensures answers { result ≡ checked n text.now }
     ensures exactly { LongestViable (is_base64 n) text.now result.at }
 {
-    let mut nothing = [0u8; 0];
-    read(text, n, &mut nothing)
+    read(text, n, &mut [])
 }
 
 // Reads text as the base64 of as many bytes as out has. Where it is that, out holds them and the answer is true; else out is as it was. Where out
 // may have any length, there is no room to hold the bytes back until the last group is seen: so the text is gone over twice.
+#[tactic(auto, unfolding(crate::specs::Decoding::decoded))]
 pub fn decode(text: &[u8], out: &mut [u8]) -> bool
     ensures { answered result out.new ≡ decoded (length out.old) text.now out.old }
 {
@@ -143,26 +146,37 @@ pub fn decode(text: &[u8], out: &mut [u8]) -> bool
     true
 }
 
+// Text as the base64 of N bytes: Some of them where it is that, else None.
+pub fn bytes<const N: usize>(text: &[u8]) -> Option<[u8; N]>
+    ensures read { result ≡ read_as N text.now }
+    ensures cases { SomeIff result (is_base64 N text.now ≡ true) (base64_bytes N text.now) }
+{
+    let mut bytes = [0u8; N];
+    read(text, N, &mut bytes).good.then_some(bytes)
+}
+
+// The same into a lent buffer, which is as it was where text is not the base64 of N bytes.
+#[tactic(auto, unfolding(crate::specs::Decoding::decoded))]
+fn fill<const N: usize>(text: &[u8], out: &mut [u8; N]) -> bool
+    ensures { answered result out.new ≡ decoded N text.now out.old }
+{
+    let Some(bytes) = bytes(text) else {
+        return false;
+    };
+    *out = bytes;
+    true
+}
+
 // A public key: 44 characters for 32 bytes.
 pub fn key(text: &[u8], out: &mut [u8; 32]) -> bool
     ensures { answered result out.new ≡ decoded 32 text.now out.old }
 {
-    let mut bytes = [0u8; 32];
-    if !read(text, 32, &mut bytes).good {
-        return false;
-    }
-    *out = bytes;
-    true
+    fill(text, out)
 }
 
 // A signature: 88 characters for 64 bytes.
 pub fn signature(text: &[u8], out: &mut [u8; 64]) -> bool
     ensures { answered result out.new ≡ decoded 64 text.now out.old }
 {
-    let mut bytes = [0u8; 64];
-    if !read(text, 64, &mut bytes).good {
-        return false;
-    }
-    *out = bytes;
-    true
+    fill(text, out)
 }
