@@ -18,7 +18,7 @@ use fields::Fields;
 use head::{HeadRead, Signed};
 use ranges::Extent;
 use refusals::Refusal;
-use ring::{Found, KeyRing};
+use ring::KeyRing;
 
 // Refused. Or accepted if a signature is good, of the string whose `length` bytes were written: the status, the
 // size of a block, the bytes of the body that the answer carries, the number of the key's record, and the length of the id.
@@ -57,7 +57,7 @@ pub fn judge(text: &[u8], ring: KeyRing, uri: &[u8], question: &mut [u8]) -> Jud
         return refused(text, 16);
     }
     let signed = head.signed;
-    let Found::At(key) = trusted(ring, signed) else {
+    let Some(key) = trusted(ring, signed) else {
         return refused(text, 12);
     };
     if question.len() < text.len() {
@@ -86,7 +86,7 @@ fn is_asked_for(text: &[u8], f: Fields, uri: &[u8]) -> bool
 }
 
 // The record that trusts the key of `X-Ouinet-Sig0`, if the key of `X-Ouinet-BSigs` is the same.
-fn trusted(ring: KeyRing, s: Signed) -> Found
+fn trusted(ring: KeyRing, s: Signed) -> Option<usize>
     ensures { found_of result ≡ pick (same s.bsigs.key s.sig0.key) (found s.sig0.key s.injection.time (ring_of ring)) none }
 {
     let bsigs = s.bsigs;
@@ -95,7 +95,7 @@ fn trusted(ring: KeyRing, s: Signed) -> Found
     let blocks = bsigs.key;
     let key = sig0.key;
     if !text::same(&blocks, &key) {
-        return Found::Nothing;
+        return None;
     }
     ring::find(ring, key, injection.time)
 }

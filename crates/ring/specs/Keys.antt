@@ -1,6 +1,6 @@
 -- The key ring as the code holds it, and the ring that it stands for (crate stream, Ring; paper 01, "The head").
 -- Assumes nothing.
-use Rattle.std.specs.Prelude.{List, [], ◌∷◌, ◌++◌, map, ℕ, ◌+◌, min, ltb, length, take, set, replicate}
+use Rattle.std.specs.Prelude.{List, [], ◌∷◌, ◌++◌, map, ℕ, ◌+◌, min, ltb, length, take, set, replicate, Option as Maybe, Some, None}
 use Rattle.std.proofs.Math.Option.{Option, none, some}
 use Rattle.octets.specs.Choice.{pick}
 use Rattle.stream.specs.Limits.{ring_limit}
@@ -8,8 +8,6 @@ use Rattle.stream.specs.Ring.{Trusted, Ring}
 use Rattle.stream.specs.Terms.{Terms}
 use Rattle.ring.specs.declared.KeyRecord.{KeyRecord}
 use Rattle.ring.specs.declared.KeyRing.{KeyRing}
-use Rattle.ring.specs.declared.Found.{Found}
-use Rattle.ring.specs.declared.Found.TheVariants.{At, Nothing}
 
 -- "a 32-byte key, first and last second trusted"
 abbrev pub trusted_of : KeyRecord → Trusted
@@ -24,9 +22,9 @@ abbrev pub terms_of : KeyRing → List ℕ → Terms
 terms_of r uri = record { ring = ring_of r; uri = uri }
 
 -- the number of the record found, which is counted from 0
-abbrev pub found_of : Found → Option ℕ
-found_of (At i) = some i
-found_of Nothing = none
+abbrev pub found_of : Maybe ℕ → Option ℕ
+found_of (Some i) = some i
+found_of None = none
 
 -- ---- rings made record by record
 

@@ -1,8 +1,7 @@
 // The key ring by value: made record by record, and searched for a key that is trusted at a time.
 #![tactic(auto)]
 
-ghost use Rattle.std.specs.Prelude.{◌≡◌, [], min};
-ghost use Rattle.stream.specs.Limits.{ring_limit};
+ghost use Rattle.std.specs.Prelude.{◌≡◌, [], position};
 ghost use Rattle.stream.specs.Ring.{found, fits as fits_of};
 ghost use Rattle.ring.specs.Keys.{trusted_of, ring_of, found_of, ring_with, keys_with, no_keys};
 
@@ -21,13 +20,6 @@ pub struct KeyRecord {
 pub struct KeyRing {
     pub count: usize,
     pub records: [KeyRecord; RING_LIMIT],
-}
-
-// The number of a record, counted from 0.
-#[derive(Clone, Copy)]
-pub enum Found {
-    At(usize),
-    Nothing,
 }
 
 // No record. In this contract and the next, `whole` says every byte of the result and `ring` what it stands for.
@@ -63,38 +55,22 @@ pub fn added(ring: KeyRing, entry: KeyRecord) -> KeyRing
     }
 }
 
-// The first record that has the key and is trusted at the time.
-pub fn find(ring: KeyRing, key: [u8; 32], time: u64) -> Found
+// The first record that has the key and is trusted at the time, by its number from 0.
+pub fn find(ring: KeyRing, key: [u8; 32], time: u64) -> Option<usize>
     ensures { found_of result ≡ found key time (ring_of ring) }
 {
-    let count = held(ring.count);
-    let mut i = 0;
-    while i < count {
-        let entry = ring.records[i];
-        if fits(entry, key, time) {
-            return Found::At(i);
-        }
-        i += 1;
-    }
-    Found::Nothing
+    first_fit(&ring.records[..ring.count.min(RING_LIMIT)], key, time)
 }
 
-// How many of the records are the ring's.
-fn held(count: usize) -> usize
-    ensures { result ≡ min count ring_limit }
+fn first_fit(records: &[KeyRecord], key: [u8; 32], time: u64) -> Option<usize>
+    ensures { result ≡ position (λ k. fits_of key time (trusted_of k)) records.now }
 {
-    if count < RING_LIMIT {
-        count
-    } else {
-        RING_LIMIT
-    }
+    records.iter().position(|entry| fits(*entry, key, time))
 }
 
 // The record has the key, and the time is within its span: the first and the last second are.
 fn fits(entry: KeyRecord, key: [u8; 32], time: u64) -> bool
     ensures { result ≡ fits_of key time (trusted_of entry) }
 {
-    let trusted = entry.key;
-    let same = text::same(&key, &trusted);
-    same & ((entry.first <= time) & (time <= entry.last))
+    (key == entry.key) & ((entry.first <= time) & (time <= entry.last))
 }

@@ -24,10 +24,10 @@ pub returns-then-question-text : goal.returns-then-question-text
 returns-then-question-text c =
     ap (λ (j : Judged). judged j (c.args.question.now)) c.refused-then-question-text.ensures
     ∙ judged_short _ _ _ _ c.read-head.ensures c.if-fault-ne0.false (sym c.is_asked_for.ensures ∙ c.if-not-is_asked_for.false) _
-    (sym (ap found_of c.in-At.is) ∙ c.trusted.ensures) c.if-question-text.true
+    (sym (ap found_of c.in-Some.is) ∙ c.trusted.ensures) c.if-question-text.true
 
 pub returns : goal.returns
 returns c =
     c.ask.ensures
     ∙ judged_asked _ _ _ _ c.read-head.ensures c.if-fault-ne0.false (sym c.is_asked_for.ensures ∙ c.if-not-is_asked_for.false) _
-    (sym (ap found_of c.in-At.is) ∙ c.trusted.ensures) c.if-question-text.false
+    (sym (ap found_of c.in-Some.is) ∙ c.trusted.ensures) c.if-question-text.false
