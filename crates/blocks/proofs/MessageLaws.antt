@@ -3,8 +3,8 @@
 use mathlib.Core.Bool.{Bool, true, false}
 use mathlib.Core.List.{List, ◌∷◌, ◌++◌}
 use mathlib.Core.Path.{◌≡◌, refl, sym, ap, ◌∙◌}
-use Prim.Native.Nat.{ℕ, ◌+◌, ◌-◌, ◌≤◌, ◌<◌, ◌^◌, min}
-use native.Mathlib.Nat.{sub-zero, min-eq_left}
+use Prim.Native.Nat.{ℕ, ◌+◌, ◌≤◌, ◌<◌, ◌^◌, min}
+use native.Mathlib.Nat.{min-eq_left}
 use native.Mathlib.Omega.{arith}
 use borrow.Author.Tests.{le-leb, lt-leb, leb-true, leb-false}
 use lib.Dec.{leb}
@@ -33,14 +33,14 @@ module _ (m out : List ℕ) where
 -- ---- the parts
 
 -- an array of 64 has no more to take
-id_part : (id : List ℕ) (k e : ℕ) → length id ≡ 64 → e ≡ min k 64 → take (e - 0) (drop 0 id) ≡ take k id
+id_part : (id : List ℕ) (k e : ℕ) → length id ≡ 64 → e ≡ min k 64 → take e id ≡ take k id
 id_part id k e l f = by (leb k 64) refl
   where
-    by : (t : Bool) → leb k 64 ≡ t → take (e - 0) (drop 0 id) ≡ take k id
-    by true h = rw (sub-zero, f, min-eq_left {n = k} {m = 64} (leb-true k 64 h))
+    by : (t : Bool) → leb k 64 ≡ t → take e id ≡ take k id
+    by true h = rw (f, min-eq_left {n = k} {m = 64} (leb-true k 64 h))
     by false h =
         let g = leb-false k 64 h in
-        let w : e - 0 ≡ 64 = omega arith in
+        let w : e ≡ 64 = omega arith in
         rw (w, take_all 64 id (omega arith), take_all k id (omega arith))
 
 over_front : (o l : List ℕ) → take (length l) (over o 0 l) ≡ l
@@ -65,8 +65,8 @@ module _ (n count : ℕ) (d : List ℕ) (h : n < 2 ^ 64) (w : written count d �
   pub digits_few : count ≤ 20
   digits_few = omega (arith, digits_count, twenty_digits n h)
 
-  digits_part : take (count - 0) (drop 0 d) ≡ decimal n
-  digits_part = rw (sub-zero, digits_count, bytes_are digits_written) (over_front (replicate 20 0) (decimal n))
+  digits_part : take count d ≡ decimal n
+  digits_part = rw (digits_count, bytes_are digits_written) (over_front (replicate 20 0) (decimal n))
 
   -- ---- the message
 
@@ -78,14 +78,14 @@ module _ (n count : ℕ) (d : List ℕ) (h : n < 2 ^ 64) (w : written count d �
     unfolding block_message
     message_length = simp length-append (omega (arith, digits_count, length-take k id))
 
-    message_parts : take (e - 0) (drop 0 id) ++ 0 ∷ (take (count - 0) (drop 0 d) ++ 0 ∷ hash) ≡ message
+    message_parts : take e id ++ 0 ∷ (take count d ++ 0 ∷ hash) ≡ message
     unfolding block_message
     message_parts = rw (id_part id k e li f, digits_part)
 
     pub left_out : (out : List ℕ) → length out < e + count + 66 → message_written message out ≡ written 0 out
     left_out out r = message_no_room message out (omega (arith, message_length))
 
-    pub put_in : (out b : List ℕ) (k : ℕ) → e + count + 66 ≤ length out → placed k b ≡ wrote out 0 (take (e - 0) (drop 0 id) ++ 0 ∷ (take (count - 0) (drop 0 d) ++ 0 ∷ hash))
+    pub put_in : (out b : List ℕ) (k : ℕ) → e + count + 66 ≤ length out → placed k b ≡ wrote out 0 (take e id ++ 0 ∷ (take count d ++ 0 ∷ hash))
         → message_written message out ≡ written k b
     unfolding at_front
     put_in out b k r q =

@@ -30,12 +30,11 @@ pub fn message(
     ensures { written result out.new ≡ message_written (block_message (take id_length id) offset.0 hash) out.old }
 {
     let mut digits = [0u8; 20];
-    let at = offset.0;
-    let count = number::write_decimal(&mut digits, 0, at);
-    let id_end = places::least(id_length, 64);
+    let count = number::write_decimal(&mut digits, 0, offset.0);
+    let id_end = id_length.min(64);
     let total = id_end + count + 66;
     if out.len() < total {
         return 0;
     }
-    join(out, &id[0..id_end], &digits[0..count], &hash)
+    join(out, &id[..id_end], &digits[..count], &hash)
 }

@@ -14,23 +14,12 @@ pub struct BlockNumber(pub u64);
 pub fn offset_of(i: BlockNumber, size: u64) -> ByteOffset
     ensures { result ≡ offset_at i size }
 {
-    let n = i.0;
-    if size == 0 {
-        return ByteOffset(0);
-    }
-    if 0xffff_ffff_ffff_ffff / size < n {
-        return ByteOffset(0xffff_ffff_ffff_ffff);
-    }
-    ByteOffset(n * size)
+    ByteOffset(i.0.saturating_mul(size))
 }
 
 // The number of the block that has the byte at a place, among blocks of `size` bytes; 0 where they have none.
 pub fn block_at(place: ByteOffset, size: u64) -> BlockNumber
     ensures { result ≡ record { 0 = place.0 / size } }
 {
-    let at = place.0;
-    if size == 0 {
-        return BlockNumber(0);
-    }
-    BlockNumber(at / size)
+    BlockNumber(place.0.checked_div(size).unwrap_or(0))
 }
