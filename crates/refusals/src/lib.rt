@@ -16,7 +16,7 @@ pub struct Refusal {
 pub fn has_place(number: u8) -> bool
     ensures { result ≡ has_place number }
 {
-    (number == 3) | (number == 6)
+    matches!(number, 3 | 6)
 }
 
 // A refusal that has no place.
