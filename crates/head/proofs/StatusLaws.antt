@@ -1,7 +1,7 @@
 -- The status: the one that is signed, by the tests that the code makes, and what it says of the head's range. Assumes nothing.
 use mathlib.Core.Bool.{Bool, true, false, ◌&&◌, not, and-true}
 use mathlib.Core.List.{List}
-use mathlib.Core.Path.{◌≡◌, refl, sym, ◌∙◌}
+use mathlib.Core.Path.{◌≡◌, refl, sym, ap, ◌∙◌}
 use Prim.Native.Nat.{ℕ}
 use lib.Dec.{eqb}
 use Rattle.octets.specs.Octets.{octets}
@@ -12,8 +12,10 @@ use Rattle.stream.specs.Lines.{Field}
 use Rattle.stream.specs.Numbers.{number_from, decimal_value}
 use Rattle.stream.specs.Range.{content_range_name, is_content_range}
 use Rattle.stream.proofs.Truth.{right_holds, same_equal}
+use Rattle.std.specs.Prelude.{Option, unwrap_or}
 use Rattle.ranges.specs.Extent.{extent_of}
 use Rattle.ranges.proofs.Answers.{range_says, range_is}
+use Rattle.ranges.specs.declared.extent.Extent.{Extent}
 use Rattle.ranges.specs.declared.extent.Extent.TheVariants.{Whole}
 use Rattle.head.specs.Reading.{signed_digits}
 use Rattle.head.specs.declared.status.StatusRead.{StatusRead}
@@ -75,5 +77,5 @@ module _ (h : Head) where
         by : (t : Bool) → is_partial h ≡ t → read.extent ≡ extent_of (range_of h)
         by true e =
             let r = right_holds (is_status (signed_status h)) (is_ranged h) (sym status_kept ∙ good) in
-            rw e (range_is (block_size h) (content_range h) (right_holds (eqb (count_of content_range_name h.fields) 1) (is_content_range (block_size h) (content_range h)) (rw e at r)))
+            rw e (ap (λ (e : Option Extent). unwrap_or e Whole) (range_is (block_size h) (content_range h) (right_holds (eqb (count_of content_range_name h.fields) 1) (is_content_range (block_size h) (content_range h)) (rw e at r))))
         by false e = rw e

@@ -1,5 +1,5 @@
 -- The rules of a head in the groups in which the code tests them. No public contract names these. Assumes nothing.
-use Rattle.std.specs.Prelude.{Bool, true, ◌&&◌, not, List, [], ◌∷◌, ◌≡◌, ℕ, eqb, leb, length}
+use Rattle.std.specs.Prelude.{Bool, true, ◌&&◌, not, List, [], ◌∷◌, ◌≡◌, ℕ, eqb, leb, length, is_some, unwrap_or}
 use Rattle.octets.specs.Choice.{pick}
 use Rattle.octets.specs.Octets.{octets}
 use Rattle.stream.specs.Bytes.{same, same_name}
@@ -69,9 +69,9 @@ pub record ReadsSigned (text : List ℕ) (fs : List Field) (r : Signed) : Type 0
 unfoldable pub part_read : List Field → ℕ → Bool → StatusRead
 part_read fs N signed =
     record {
-      good = signed && (eqb (count_of content_range_name fs) 1 && (range_read N (range_scan (value_of content_range_name fs))).good);
+      good = signed && (eqb (count_of content_range_name fs) 1 && is_some (range_read N (range_scan (value_of content_range_name fs))));
       number = 206;
-      extent = (range_read N (range_scan (value_of content_range_name fs))).extent;
+      extent = unwrap_or (range_read N (range_scan (value_of content_range_name fs))) Whole;
     }
 
 unfoldable pub status_read : List ℕ → List Field → ℕ → StatusRead

@@ -56,10 +56,9 @@ fn read_part(text: &[u8], f: Fields, size: usize, signed: bool) -> StatusRead
 {
     let single = fields::count_of(text, f, b"content-range") == 1;
     let range = ranges::read(fields::value_of(text, f, b"content-range"), size);
-    let extent = range.extent;
     StatusRead {
-        good: signed & (single & range.good),
+        good: signed & (single & range.is_some()),
         number: 206,
-        extent,
+        extent: range.unwrap_or(Extent::Whole),
     }
 }

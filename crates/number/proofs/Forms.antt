@@ -1,5 +1,5 @@
 -- What a caller learns from each answer of a reader, where the cap on the digits does not matter. Assumes nothing.
-use mathlib.Core.Path.{◌≡◌, refl, sym, ◌∙◌}
+use mathlib.Core.Path.{◌≡◌, refl, sym, ap, ◌∙◌}
 use mathlib.Core.Bool.{Bool, true, false}
 use mathlib.Core.List.{List}
 use Prim.Native.Nat.{ℕ, ◌≤◌, min}
@@ -10,7 +10,9 @@ use Rattle.octets.specs.Viable.{LongestViable}
 use Rattle.stream.specs.GoodText.{is_count}
 use Rattle.stream.specs.Numbers.{decimal_value, hex_value, is_decimal, is_hex_number}
 use Rattle.number.specs.Reading.{decimal_place, hex_place, count_place, decimal_read, hex_read, count_read}
-use Rattle.std.specs.Prelude.{Result, Ok, Err}
+use Rattle.std.specs.Prelude.{Result, Ok, Err, Some, None}
+use Rattle.std.specs.Result.{result_ok}
+use Rattle.std.proofs.lemmas.Option.{none-some, same_Some}
 use Rattle.number.proofs.Places.{decimal_longest, hex_longest, count_longest}
 
 -- ---- an answer of any of the readers
@@ -30,6 +32,21 @@ module _ (good : Bool) (n at : ℕ) where
       by true e = let z : ◌≡◌ {A = ℕ} 0 1 = cc in absurd (omega arith)
       by false e = (refl, cc)
 
+  -- as an Option
+  some : (v : ℕ) → Some v ≡ result_ok (pick good (Ok n) (Err at)) → (good ≡ true) × (v ≡ n)
+  some v e = by good e
+    where
+      by : (t : Bool) → Some v ≡ result_ok (pick t (Ok n) (Err at)) → (t ≡ true) × (v ≡ n)
+      by true e = (refl, same_Some _ _ e)
+      by false e = absurd (none-some _ (sym e))
+
+  none : None ≡ result_ok (pick good (Ok n) (Err at)) → good ≡ false
+  none e = by good e
+    where
+      by : (t : Bool) → None ≡ result_ok (pick t (Ok n) (Err at)) → t ≡ false
+      by true e = absurd (none-some _ e)
+      by false e = refl
+
 -- the place of a bad answer is the one that is known to be the longest beginning's
 placed : (good : List ℕ → Bool) (l : List ℕ) (n at : ℕ) → LongestViable good l at → {r : Result ℕ ℕ} → r ≡ pick (good l) (Ok n) (Err at) → (p : ℕ) → r ≡ Err p → LongestViable good l p
 placed good l n at h a p e = let q : at ≡ p = (missed (good l) n at p (sym a ∙ e)).1 in rw (← q) h
@@ -46,11 +63,11 @@ module _ (most : ℕ) (l : List ℕ) where
     unfolding decimal_read
     decimal_read_lem = rw (min-eq_left {n = most} {m = 19} h)
 
-    pub decimal_found : (v : ℕ) → decimal_read most l ≡ Ok v → (is_decimal most l ≡ true) × (v ≡ decimal_value l)
-    decimal_found v e = found (is_decimal most l) (decimal_value l) (decimal_place most l) v (sym decimal_read_lem ∙ e)
+    pub decimal_found : {r : Result ℕ ℕ} → r ≡ decimal_read most l → (v : ℕ) → Some v ≡ result_ok r → (is_decimal most l ≡ true) × (v ≡ decimal_value l)
+    decimal_found a v e = some (is_decimal most l) (decimal_value l) (decimal_place most l) v (e ∙ ap result_ok (a ∙ decimal_read_lem))
 
-    pub decimal_missed : (p : ℕ) → decimal_read most l ≡ Err p → is_decimal most l ≡ false
-    decimal_missed p e = (missed (is_decimal most l) (decimal_value l) (decimal_place most l) p (sym decimal_read_lem ∙ e)).0
+    pub decimal_missed : {r : Result ℕ ℕ} → r ≡ decimal_read most l → None ≡ result_ok r → is_decimal most l ≡ false
+    decimal_missed a e = none (is_decimal most l) (decimal_value l) (decimal_place most l) (e ∙ ap result_ok (a ∙ decimal_read_lem))
 
 -- ---- from 1 to a limit
 
@@ -64,11 +81,11 @@ module _ (most limit : ℕ) (l : List ℕ) where
     unfolding count_read
     count_read_lem = rw (min-eq_left {n = most} {m = 19} h)
 
-    pub count_found : (v : ℕ) → count_read most limit l ≡ Ok v → (is_count most limit l ≡ true) × (v ≡ decimal_value l)
-    count_found v e = found _ _ _ v (sym count_read_lem ∙ e)
+    pub count_found : {r : Result ℕ ℕ} → r ≡ count_read most limit l → (v : ℕ) → Some v ≡ result_ok r → (is_count most limit l ≡ true) × (v ≡ decimal_value l)
+    count_found a v e = some _ _ _ v (e ∙ ap result_ok (a ∙ count_read_lem))
 
-    pub count_missed : (p : ℕ) → count_read most limit l ≡ Err p → is_count most limit l ≡ false
-    count_missed p e = (missed _ _ _ p (sym count_read_lem ∙ e)).0
+    pub count_missed : {r : Result ℕ ℕ} → r ≡ count_read most limit l → None ≡ result_ok r → is_count most limit l ≡ false
+    count_missed a e = none _ _ _ (e ∙ ap result_ok (a ∙ count_read_lem))
 
 -- ---- hex
 

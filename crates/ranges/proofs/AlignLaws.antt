@@ -1,15 +1,21 @@
 -- Whether a part is made of whole blocks, test by test. Assumes nothing.
-use borrow.Author.Tests.{le-leb, lt-leb, lt-ltb, le-ltb}
-use mathlib.Core.Bool.{false, ◌&&◌, ◌||◌, and-false}
-use mathlib.Core.Path.{◌≡◌}
-use Prim.Native.Nat.{ℕ, ◌+◌, ◌≤◌, ◌<◌}
-use native.Mathlib.Nat.{mod-zero}
+use borrow.Author.Tests.{le-leb, lt-leb, lt-ltb, le-ltb, eq-eqb, eqb-true}
+use mathlib.Core.Bool.{Bool, true, false, ◌&&◌, ◌||◌, and-false}
+use mathlib.Core.Path.{◌≡◌, refl, sym}
+use Prim.Native.Nat.{ℕ, ◌+◌, ◌%◌, ◌≤◌, ◌<◌}
 use native.Mathlib.Numerals.{add-one}
 use lib.Dec.{eqb, leb, ltb}
+use Rattle.std.specs.Prelude.{IsTrue, ◌↔◌}
 use Rattle.stream.specs.Range.{part, is_aligned, is_multiple_of}
 
-pub multiple_of_none : {N : ℕ} (n : ℕ) → N ≡ 0 → eqb n 0 ≡ is_multiple_of N n
-multiple_of_none n e = rw (e, mod-zero n)
+-- by the library's test
+pub multiple_is : (N n : ℕ) (t : Bool) → IsTrue t ↔ (n % N ≡ 0) → t ≡ is_multiple_of N n
+multiple_is N n true h = sym (eq-eqb _ 0 (h.0 refl))
+multiple_is N n false h = by (eqb (n % N) 0) refl
+  where
+    by : (u : Bool) → eqb (n % N) 0 ≡ u → false ≡ u
+    by true e = h.1 (eqb-true _ 0 e)
+    by false e = refl
 
 module _ (N a b t : ℕ) where
   pub turned : b < a → is_aligned N (part a b t) ≡ false

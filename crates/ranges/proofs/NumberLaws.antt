@@ -1,11 +1,13 @@
 -- A number after fixed text: the tests that find it, and what a template makes of the two. Assumes nothing.
-use mathlib.Core.Bool.{Bool, true, false, and-false, true≢false, false≢true}
+use mathlib.Core.Bool.{Bool, true, false, and-false}
 use mathlib.Core.List.{List, ◌∷◌}
 use mathlib.Core.Path.{◌≡◌, refl, sym, ap, ◌∙◌}
 use Prim.Native.Nat.{ℕ, ◌+◌, ◌≤◌, max}
 use native.Mathlib.Nat.{add-sub_cancel_left}
 use native.Mathlib.Omega.{arith}
 use lib.ListN.{length, drop, length-take, length-drop}
+use Rattle.std.specs.Prelude.{Some, None}
+use Rattle.std.proofs.lemmas.Option.{none-some, same_Some}
 use Rattle.places.specs.Place.{part_of}
 use Rattle.classes.proofs.RunLaws.{run_take}
 use Rattle.classes.proofs.ScanLaws.{scan_text, scan_unlike, scan_bytes_to}
@@ -13,7 +15,7 @@ use Rattle.stream.specs.Bytes.{is_digit}
 use Rattle.stream.specs.Numbers.{is_decimal, decimal_value}
 use Rattle.stream.specs.Template.{Part, text, bytes, Scanned, unlike, keep, scan, starts_with}
 use Rattle.text.proofs.SameLaws.{starts_is}
-use Rattle.ranges.specs.Reading.{number_after, no_number, digits_from}
+use Rattle.ranges.specs.Reading.{number_after, digits_from}
 use Rattle.ranges.specs.declared.numbers.Numbered.{Numbered}
 
 module _ (value : List ℕ) (at : ℕ) (mark : List ℕ) where
@@ -28,16 +30,16 @@ module _ (value : List ℕ) (at : ℕ) (mark : List ℕ) where
 
   -- ---- the tests, one after the other
 
-  pub unmarked : marked ≡ false → number_after value at mark ≡ no_number
+  pub unmarked : marked ≡ false → number_after value at mark ≡ None
   unfolding number_after
   unmarked e = rw e
 
-  pub unnumbered : is_decimal 12 digits ≡ false → number_after value at mark ≡ no_number
+  pub unnumbered : is_decimal 12 digits ≡ false → number_after value at mark ≡ None
   unfolding number_after
   unnumbered e = rw (e, and-false marked)
 
   pub numbered : marked ≡ true → is_decimal 12 digits ≡ true
-      → number_after value at mark ≡ record { good = true; number = decimal_value digits; next = start + length digits }
+      → number_after value at mark ≡ Some (record { number = decimal_value digits; next = start + length digits })
   unfolding number_after
   numbered e f = rw (e, f)
 
@@ -47,10 +49,10 @@ module _ (value : List ℕ) (at : ℕ) (mark : List ℕ) where
 
   -- the digits are the part t of the value, which ends at `end`
   module _ {end : ℕ} (e : end ≡ start + length digits) {t : List ℕ} (f : t ≡ part_of value start end) where
-    pub number_bad : is_decimal 12 t ≡ false → no_number ≡ number_after value at mark
+    pub number_bad : is_decimal 12 t ≡ false → None ≡ number_after value at mark
     number_bad h = sym (unnumbered (ap (is_decimal 12) (sym (f ∙ digits_part end e)) ∙ h))
 
-    pub number_read : marked ≡ true → {v : ℕ} → (is_decimal 12 t ≡ true) × (v ≡ decimal_value t) → record { good = true; number = v; next = end } ≡ number_after value at mark
+    pub number_read : marked ≡ true → {v : ℕ} → (is_decimal 12 t ≡ true) × (v ≡ decimal_value t) → Some (record { number = v; next = end }) ≡ number_after value at mark
     number_read m h =
         let d = f ∙ digits_part end e in
         rw (h.1, e, d) (sym (numbered m (ap (is_decimal 12) (sym d) ∙ h.0)))
@@ -81,24 +83,23 @@ pub record Found (value : List ℕ) (at : ℕ) (mark : List ℕ) (n : Numbered) 
   pub number : n.number ≡ decimal_value (digits value at mark)
   pub scans : (ps : List Part) → scanned value at mark ps ≡ keep (digits value at mark) (scan ps (drop n.next value))
 
-module _ (value : List ℕ) (at : ℕ) (mark : List ℕ) {n : Numbered} (said : n ≡ number_after value at mark) where
+module _ (value : List ℕ) (at : ℕ) (mark : List ℕ) where
   -- a test that neither a text of another form passes, nor one whose digits write no number
-  pub missed : n.good ≡ false → (ps : List Part) (p : Scanned → Bool) → p unlike ≡ false → ((d : List ℕ) (x : Scanned) → is_decimal 12 d ≡ false → p (keep d x) ≡ false)
+  pub missed : None ≡ number_after value at mark → (ps : List Part) (p : Scanned → Bool) → p unlike ≡ false → ((d : List ℕ) (x : Scanned) → is_decimal 12 d ≡ false → p (keep d x) ≡ false)
       → p (scanned value at mark ps) ≡ false
   missed h ps p other bad = by (marked value at mark) refl (is_decimal 12 (digits value at mark)) refl
     where
       by : (t : Bool) → marked value at mark ≡ t → (u : Bool) → is_decimal 12 (digits value at mark) ≡ u → p (scanned value at mark ps) ≡ false
-      by true e true f = absurd (true≢false (sym (ap (λ (r : Numbered). r.good) (said ∙ numbered value at mark e f)) ∙ h))
+      by true e true f = absurd (none-some _ (h ∙ numbered value at mark e f))
       by true e false f = ap p (scan_marked value at mark e ps) ∙ bad (digits value at mark) (scan ps (drop (at + length mark + length (digits value at mark)) value)) f
-      by false e true f = ap p (scan_unlike (bytes is_digit ∷ ps) value at mark e) ∙ other
-      by false e false f = ap p (scan_unlike (bytes is_digit ∷ ps) value at mark e) ∙ other
+      by false e u f = ap p (scan_unlike (bytes is_digit ∷ ps) value at mark e) ∙ other
 
-  pub found : n.good ≡ true → Found value at mark n
-  found h = by (marked value at mark) refl (is_decimal 12 (digits value at mark)) refl
+  pub found : {n : Numbered} → Some n ≡ number_after value at mark → Found value at mark n
+  found {n} h = by (marked value at mark) refl (is_decimal 12 (digits value at mark)) refl
     where
       by : (t : Bool) → marked value at mark ≡ t → (u : Bool) → is_decimal 12 (digits value at mark) ≡ u → Found value at mark n
       by true e true f =
-          let q = said ∙ numbered value at mark e f in
+          let q = same_Some _ _ (h ∙ numbered value at mark e f) in
           record {
             decimal = f;
             number = ap (λ (r : Numbered). r.number) q;
@@ -106,6 +107,5 @@ module _ (value : List ℕ) (at : ℕ) (mark : List ℕ) {n : Numbered} (said : 
                 λ ps. scan_marked value at mark e ps
                 ∙ ap (λ (i : ℕ). keep (digits value at mark) (scan ps (drop i value))) (sym (ap (λ (r : Numbered). r.next) q));
           }
-      by true e false f = absurd (false≢true (sym (ap (λ (r : Numbered). r.good) (said ∙ unnumbered value at mark f)) ∙ h))
-      by false e true f = absurd (false≢true (sym (ap (λ (r : Numbered). r.good) (said ∙ unmarked value at mark e)) ∙ h))
-      by false e false f = absurd (false≢true (sym (ap (λ (r : Numbered). r.good) (said ∙ unmarked value at mark e)) ∙ h))
+      by true e false f = absurd (none-some _ (sym (h ∙ unnumbered value at mark f)))
+      by false e u f = absurd (none-some _ (sym (h ∙ unmarked value at mark e)))

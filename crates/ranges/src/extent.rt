@@ -22,11 +22,7 @@ pub fn first_byte(e: Extent) -> ByteOffset
 {
     match e {
         Extent::Whole => ByteOffset(0),
-        Extent::Part {
-            first,
-            last: _,
-            total: _,
-        } => first,
+        Extent::Part { first, .. } => first,
     }
 }
 
@@ -37,11 +33,7 @@ pub fn is_within(e: Extent, so_far: u64, n: u64) -> bool
 {
     match e {
         Extent::Whole => true,
-        Extent::Part {
-            first: _,
-            last,
-            total: _,
-        } => ends_within(last, so_far, n),
+        Extent::Part { last, .. } => ends_within(last, so_far, n),
     }
 }
 

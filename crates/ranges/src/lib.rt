@@ -6,4 +6,4 @@ mod numbers; // a number after fixed text
 mod reading; // what `Content-Range` says
 
 pub use extent::{Extent, first_byte, is_within};
-pub use reading::{RangeRead, read};
+pub use reading::read;

@@ -1,57 +1,30 @@
 // What the value of `Content-Range` says: `bytes a-b/t`, where blocks have `size` bytes.
 ghost use Rattle.std.specs.Prelude.{◌≡◌};
-ghost use Rattle.stream.specs.Range.{is_aligned, is_multiple_of, part, range_scan};
-ghost use Rattle.ranges.specs.Reading.{range_read, no_range};
+ghost use Rattle.stream.specs.Range.{is_aligned, part, range_scan};
+ghost use Rattle.ranges.specs.Reading.{range_read};
 
 use crate::extent::Extent;
 use crate::numbers;
 use blocks::ByteOffset;
 
-// Whether the value is good, and the part that it says. Where it is not good the extent is the whole body.
-#[derive(Clone, Copy)]
-pub struct RangeRead {
-    pub good: bool,
-    pub extent: Extent,
-}
-
-pub fn read(value: &[u8], size: usize) -> RangeRead
+// The part that the value says, if it is good.
+pub fn read(value: &[u8], size: usize) -> Option<Extent>
     ensures { result ≡ range_read size (range_scan value.now) }
 {
-    let first = numbers::number_after(value, 0, b"bytes ");
-    if !first.good {
-        return no_range();
-    }
-    let last = numbers::number_after(value, first.next, b"-");
-    if !last.good {
-        return no_range();
-    }
-    let total = numbers::number_after(value, last.next, b"/");
-    if !total.good {
-        return no_range();
-    }
+    let first = numbers::number_after(value, 0, b"bytes ")?;
+    let last = numbers::number_after(value, first.next, b"-")?;
+    let total = numbers::number_after(value, last.next, b"/")?;
     if total.next < value.len() {
-        return no_range();
+        return None;
     }
     if !is_aligned(size as u64, first.number, last.number, total.number) {
-        return no_range();
+        return None;
     }
-    RangeRead {
-        good: true,
-        extent: Extent::Part {
-            first: ByteOffset(first.number),
-            last: ByteOffset(last.number),
-            total: total.number,
-        },
-    }
-}
-
-fn no_range() -> RangeRead
-    ensures { result ≡ no_range }
-{
-    RangeRead {
-        good: false,
-        extent: Extent::Whole,
-    }
+    Some(Extent::Part {
+        first: ByteOffset(first.number),
+        last: ByteOffset(last.number),
+        total: total.number,
+    })
 }
 
 // Whether a part from byte `first` to byte `last` of so many is made of whole blocks, but for the body's last one.
@@ -68,15 +41,5 @@ fn is_aligned(size: u64, first: u64, last: u64, total: u64) -> bool
         return false;
     }
     let end = last + 1;
-    is_multiple(first, size) & ((end == total) | is_multiple(end, size))
-}
-
-// In the definitions n modulo 0 is n.
-fn is_multiple(n: u64, size: u64) -> bool
-    ensures { result ≡ is_multiple_of size n }
-{
-    if size == 0 {
-        return n == 0;
-    }
-    n % size == 0
+    first.is_multiple_of(size) & ((end == total) | end.is_multiple_of(size))
 }

@@ -4,4 +4,4 @@ use Rattle.head.proofs.status.read_part.Goals as goal
 
 pub returns : goal.returns
 unfolding part_read
-returns c = rw (c.read-range.ensures, c.value_of.ensures, c.count_of-single.ensures)
+returns c = rw (c.unwrap_or.ensures, c.is_some.ensures, c.read-range.ensures, c.value_of.ensures, c.count_of-single.ensures)

@@ -8,21 +8,21 @@ use Rattle.ranges.proofs.NumberLaws.{unmarked, number_bad, number_read, marked_f
 use Rattle.ranges.proofs.numbers.number_after.Goals as goal
 
 pub returns-then-not-starts_with : goal.returns-then-not-starts_with
-returns-then-not-starts_with c = c.no_number.ensures ∙ sym (unmarked _ _ _ (sym c.starts_with.ensures ∙ c.if-not-starts_with.true))
+returns-then-not-starts_with c = sym (unmarked _ _ _ (sym c.starts_with.ensures ∙ c.if-not-starts_with.true))
 
 pub overflow_add-start : goal.overflow_add-start
 overflow_add-start c = record { fits = omega (arith, marked_fits c.args.value.now c.args.at c.args.mark.now (sym c.starts_with.ensures ∙ c.if-not-starts_with.false)) }
 
-pub returns-in-Ok : goal.returns-in-Ok
+pub returns-in_err-number : goal.returns-in_err-number
 unfolding class_of
-returns-in-Ok c =
+returns-in_err-number c =
+    c.from_residual.ensures
+    ∙ number_bad c.args.value.now c.args.at c.args.mark.now c.run_end-next.ensures c.part.ensures
+    (decimal_missed 12 _ (lit≤ tt) c.decimal.ensures.answers c.in_err-number.ensures.value)
+
+pub returns : goal.returns
+unfolding class_of
+returns c =
     number_read c.args.value.now c.args.at c.args.mark.now c.run_end-next.ensures c.part.ensures
     (sym c.starts_with.ensures ∙ c.if-not-starts_with.false)
-    (decimal_found 12 _ (lit≤ tt) _ (sym c.decimal.ensures.answers ∙ c.in-Ok.is))
-
-pub returns-in-Err : goal.returns-in-Err
-unfolding class_of
-returns-in-Err c =
-    c.no_number-in-Err.ensures
-    ∙ number_bad c.args.value.now c.args.at c.args.mark.now c.run_end-next.ensures c.part.ensures
-    (decimal_missed 12 _ (lit≤ tt) _ (sym c.decimal.ensures.answers ∙ c.in-Err.is))
+    (decimal_found 12 _ (lit≤ tt) c.decimal.ensures.answers _ c.in_ok-number.ensures.value)

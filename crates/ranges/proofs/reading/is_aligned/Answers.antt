@@ -1,6 +1,6 @@
 -- The bounds, one after the other, and the two ends by blocks. Assumes nothing.
 use mathlib.Core.Path.{sym}
-use Rattle.ranges.proofs.AlignLaws.{turned, past_total, over_limit, by_blocks}
+use Rattle.ranges.proofs.AlignLaws.{turned, past_total, over_limit, by_blocks, multiple_is}
 use Rattle.ranges.proofs.reading.is_aligned.Goals as goal
 
 pub returns-then-last-first : goal.returns-then-last-first
@@ -14,5 +14,5 @@ returns-then-total-gt-BODY_LIMIT c = sym (over_limit _ _ _ _ c.if-total-gt-BODY_
 
 pub returns : goal.returns
 returns c =
-    rw (c.is_multiple.ensures, c.is_multiple-2.ensures)
+    rw (multiple_is _ _ _ c.is_multiple_of.ensures, multiple_is _ _ _ c.is_multiple_of-2.ensures)
     (sym (by_blocks _ _ _ _ c.if-last-first.false c.if-total-last.false c.if-total-gt-BODY_LIMIT.false))
