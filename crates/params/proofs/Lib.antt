@@ -1,5 +1,4 @@
 pub mod PartLaws
-pub mod PadLaws
 pub mod InjectionLaws
 pub mod BsigsLaws
 pub mod HeadSigLaws

@@ -5,6 +5,7 @@ use mathlib.Core.Path.{◌≡◌, ap, ◌∙◌}
 use Prim.Native.Nat.{ℕ, ◌+◌, ◌≤◌, ◌<◌}
 use native.Mathlib.Omega.{arith}
 use lib.ListN.{length, drop, length-drop}
+use Rattle.std.specs.Prelude.{Some, None}
 use Rattle.stream.specs.Bytes.{is_blank}
 use Rattle.stream.specs.Template.{Part, text, bytes, gap, Scanned, parts, unlike, keep, scan, run, starts_with}
 use Rattle.classes.proofs.RunLaws.{run_le}
@@ -14,12 +15,6 @@ use Rattle.params.specs.Parts.{Inside, onward, Reads, GoesOn}
 use Rattle.places.specs.Place.{part_of}
 use Rattle.params.specs.declared.parts.Run.{Run}
 
-abbrev pub no_run : Run
-no_run = record { good = false; start = 0; end = 0; next = 0 }
-
-none_inside : (value : List ℕ) → Inside value no_run
-none_inside value = record { ordered = omega arith; ends = omega arith; goes_on = omega arith }
-
 -- a text at a place, and a run of a class after it
 module _ (value : List ℕ) (at : ℕ) (t : List ℕ) where
   abbrev start : ℕ
@@ -28,11 +23,11 @@ module _ (value : List ℕ) (at : ℕ) (t : List ℕ) where
   run_within : at ≤ length value → starts_with t (drop at value) ≡ true → (p : ℕ → Bool) (end : ℕ) → end ≡ start + length (run p (drop start value)) → end ≤ length value
   run_within h e p end f = omega (arith, run_le p (drop start value), length-drop start value, starts_within t value at e h)
 
-  pub run_missing : (p : ℕ → Bool) → starts_with t (drop at value) ≡ false → Reads (text t ∷ bytes p ∷ []) value at no_run
-  run_missing p e = record { meaning = λ ps. scan_unlike (bytes p ∷ ps) value at t e; inside = none_inside value }
+  pub run_missing : (p : ℕ → Bool) → starts_with t (drop at value) ≡ false → Reads (text t ∷ bytes p ∷ []) value at None
+  run_missing p e = record { meaning = λ ps. scan_unlike (bytes p ∷ ps) value at t e; inside = tt }
 
   pub run_there : at ≤ length value → starts_with t (drop at value) ≡ true → (p : ℕ → Bool) (end : ℕ) → end ≡ start + length (run p (drop start value))
-      → Reads (text t ∷ bytes p ∷ []) value at (record { good = true; start = start; end = end; next = end })
+      → Reads (text t ∷ bytes p ∷ []) value at (Some (record { start = start; end = end; next = end }))
   unfolding part_of
   run_there h e p end f =
       let w = run_within h e p end f in
@@ -47,57 +42,48 @@ module _ (value : List ℕ) (r : Run) (t : List ℕ) where
   with_mark first = first ++ text t ∷ gap ∷ []
 
   -- what the parts make of the value, with what the text and the gap make of the rest of it
-  marked : (first : List Part) (at : ℕ) → Reads first value at r → (ps : List Part) → scan (with_mark first ++ ps) (drop at value) ≡ onward value r (text t ∷ gap ∷ ps)
+  marked : (first : List Part) (at : ℕ) → Reads first value at (Some r) → (ps : List Part) → scan (with_mark first ++ ps) (drop at value) ≡ onward value (Some r) (text t ∷ gap ∷ ps)
   marked first at h ps = rw (append_assoc first (text t ∷ gap ∷ []) ps) (h.meaning (text t ∷ gap ∷ ps))
 
   mark_scanned : starts_with t (drop r.next value) ≡ true → (end : ℕ) → end ≡ r.next + length t + length (run is_blank (drop (r.next + length t) value))
       → (ps : List Part) → scan (text t ∷ gap ∷ ps) (drop r.next value) ≡ scan ps (drop end value)
   mark_scanned e end f ps = scan_text (gap ∷ ps) value r.next t e ∙ scan_gap_to ps value (r.next + length t) end f
 
-  moved : Inside value r → (end : ℕ) → end ≤ length value → Inside value (record { good = true; start = r.start; end = r.end; next = end })
+  moved : Inside value r → (end : ℕ) → end ≤ length value → Inside value (record { start = r.start; end = r.end; next = end })
   moved i end h = record { ordered = i.ordered; ends = i.ends; goes_on = h }
 
-  pub mark_skipped : Inside value r → r.good ≡ false → GoesOn value r t r
-  mark_skipped i g = record { meaning = λ first at h. record { meaning = λ ps. marked first at h ps ∙ rw g; inside = i }; inside = i }
+  pub mark_missing : starts_with t (drop r.next value) ≡ false → GoesOn value r t None
+  mark_missing e = record { meaning = λ first at h. record { meaning = λ ps. marked first at h ps ∙ rw (scan_unlike (gap ∷ ps) value r.next t e); inside = tt }; inside = tt }
 
-  pub mark_missing : r.good ≡ true → starts_with t (drop r.next value) ≡ false → GoesOn value r t no_run
-  mark_missing g e =
-      let none = none_inside value in
-      record { meaning = λ first at h. record { meaning = λ ps. marked first at h ps ∙ rw (g, scan_unlike (gap ∷ ps) value r.next t e); inside = none }; inside = none }
-
-  pub mark_there : Inside value r → r.good ≡ true → starts_with t (drop r.next value) ≡ true
-      → (end : ℕ) → end ≡ r.next + length t + length (run is_blank (drop (r.next + length t) value))
-      → GoesOn value r t (record { good = true; start = r.start; end = r.end; next = end })
-  mark_there i g e end f =
+  pub mark_there : Inside value r → starts_with t (drop r.next value) ≡ true → (end : ℕ) → end ≡ r.next + length t + length (run is_blank (drop (r.next + length t) value))
+      → GoesOn value r t (Some (record { start = r.start; end = r.end; next = end }))
+  mark_there i e end f =
       let j = moved i end (run_within value r.next t i.goes_on e is_blank end f) in
-      record { meaning = λ first at h. record { meaning = λ ps. marked first at h ps ∙ rw (g, mark_scanned e end f ps); inside = j }; inside = j }
+      record { meaning = λ first at h. record { meaning = λ ps. marked first at h ps ∙ rw (mark_scanned e end f ps); inside = j }; inside = j }
+
+-- where the first parts are not there, nothing goes on
+pub none_on : {first : List Part} {value : List ℕ} {at : ℕ} → Reads first value at None → (more : List Part) → Reads (first ++ more) value at None
+none_on {first} h more = record { meaning = λ ps. rw (append_assoc first more ps) (h.meaning (more ++ ps)); inside = tt }
 
 -- ---- what the answers say of a scan
 
-module _ {first : List Part} {value : List ℕ} {at : ℕ} {r : Run} (h : Reads first value at r) (ps : List Part) where
-  pub parts_none : r.good ≡ false → scan (first ++ ps) (drop at value) ≡ unlike
-  parts_none g = h.meaning ps ∙ rw g
-
-  pub parts_read : r.good ≡ true → scan (first ++ ps) (drop at value) ≡ keep (part_of value r.start r.end) (scan ps (drop r.next value))
-  parts_read g = h.meaning ps ∙ rw g
-
 -- two answers, one after the other, and the end of the value
-module _ (second : List Part) {first : List Part} {value : List ℕ} {r : Run} (h : Reads first value 0 r) where
+module _ (first second : List Part) (value : List ℕ) where
   abbrev both : Scanned
   both = scan (first ++ (second ++ [])) value
 
-  pub first_none : r.good ≡ false → both ≡ unlike
-  first_none g = parts_none h (second ++ []) g
+  pub first_none : Reads first value 0 None → both ≡ unlike
+  first_none h = h.meaning (second ++ [])
 
-  module _ (g : r.good ≡ true) {s : Run} (k : Reads second value r.next s) where
+  module _ {r : Run} (h : Reads first value 0 (Some r)) where
     abbrev kept₁ : List ℕ
     kept₁ = part_of value r.start r.end
 
-    pub second_none : s.good ≡ false → both ≡ unlike
-    second_none e = parts_read h (second ++ []) g ∙ ap (keep kept₁) (parts_none k [] e)
+    pub second_none : Reads second value r.next None → both ≡ unlike
+    second_none k = h.meaning (second ++ []) ∙ ap (keep kept₁) (k.meaning [])
 
-    pub second_over : s.good ≡ true → s.next < length value → both ≡ unlike
-    second_over e l = parts_read h (second ++ []) g ∙ rw (parts_read k [] e, scan_over value s.next l)
+    pub second_over : {s : Run} → Reads second value r.next (Some s) → s.next < length value → both ≡ unlike
+    second_over {s} k l = h.meaning (second ++ []) ∙ rw (k.meaning [], scan_over value s.next l)
 
-    pub both_read : s.good ≡ true → length value ≤ s.next → both ≡ parts (kept₁ ∷ part_of value s.start s.end ∷ [])
-    both_read e l = parts_read h (second ++ []) g ∙ rw (parts_read k [] e, scan_end value s.next l)
+    pub both_read : {s : Run} → Reads second value r.next (Some s) → length value ≤ s.next → both ≡ parts (kept₁ ∷ part_of value s.start s.end ∷ [])
+    both_read {s} k l = h.meaning (second ++ []) ∙ rw (k.meaning [], scan_end value s.next l)

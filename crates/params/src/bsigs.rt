@@ -18,14 +18,12 @@ pub struct Bsigs {
 pub fn read_bsigs(value: &[u8]) -> Bsigs
     ensures { result ≡ bsigs_of (bsigs_scan value.now) }
 {
-    let key = parts::key_part(value);
-    if !key.good {
+    let Some(key) = parts::key_part(value) else {
         return no_bsigs();
-    }
-    let size = parts::run_after(value, key.next, b"size=", Class::Digit);
-    if !size.good {
+    };
+    let Some(size) = parts::run_after(value, key.next, b"size=", Class::Digit) else {
         return no_bsigs();
-    }
+    };
     if size.next < value.len() {
         return no_bsigs();
     }

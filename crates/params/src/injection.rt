@@ -19,14 +19,12 @@ pub struct Injection {
 pub fn read_injection(value: &[u8]) -> Injection
     ensures { result ≡ injection_of (injection_scan value.now) }
 {
-    let id = parts::run_after(value, 0, b"id=", Class::Id);
-    if !id.good {
+    let Some(id) = parts::run_after(value, 0, b"id=", Class::Id) else {
         return no_injection();
-    }
-    let time = parts::run_after(value, id.next, b",ts=", Class::Digit);
-    if !time.good {
+    };
+    let Some(time) = parts::run_after(value, id.next, b",ts=", Class::Digit) else {
         return no_injection();
-    }
+    };
     if time.next < value.len() {
         return no_injection();
     }
@@ -71,10 +69,6 @@ fn fill(id: &[u8]) -> [u8; limits::ID_LIMIT]
     ensures { result ≡ padded 64 id.now }
 {
     let mut bytes = [0u8; limits::ID_LIMIT];
-    let mut i = 0;
-    while i < id.len() {
-        bytes[i] = id[i];
-        i += 1;
-    }
+    bytes[..id.len()].copy_from_slice(id);
     bytes
 }

@@ -24,30 +24,19 @@ pub struct Sig0 {
 pub fn read_sig0(value: &[u8]) -> Sig0
     ensures { ReadsSig0 value.now (sig0_scan value.now) result }
 {
-    let key = parts::key_part(value);
-    if !key.good {
+    let Some(key) = parts::key_part(value) else {
         return no_sig0();
-    }
-    let created = parts::past_mark(
-        value,
-        parts::run_after(value, key.next, b"created=", Class::Digit),
-        b",",
-    );
-    if !created.good {
+    };
+    let Some(created) = parts::run_up_to(value, key.next, b"created=", Class::Digit, b",") else {
         return no_sig0();
-    }
-    let names = parts::past_mark(
-        value,
-        parts::run_after(value, created.next, b"headers=\"", Class::Quoted),
-        b"\",",
-    );
-    if !names.good {
+    };
+    let Some(names) = parts::run_up_to(value, created.next, b"headers=\"", Class::Quoted, b"\",")
+    else {
         return no_sig0();
-    }
-    let signature = parts::run_after(value, names.next, b"signature=\"", Class::Quoted);
-    if !signature.good {
+    };
+    let Some(signature) = parts::run_after(value, names.next, b"signature=\"", Class::Quoted) else {
         return no_sig0();
-    }
+    };
     if !text::starts_with(value, signature.next, b"\"") {
         return no_sig0();
     }
