@@ -1,14 +1,14 @@
 -- Parts of a text by their places: cut at the text's end, and parts of parts. Assumes nothing.
 use mathlib.Core.Path.{◌≡◌, refl, sym, ◌∙◌}
 use mathlib.Core.Bool.{Bool, true, false}
-use mathlib.Core.List.{List, [], ◌∷◌}
-use Prim.Native.Nat.{ℕ, zero, suc, ◌+◌, ◌-◌, ◌≤◌, ◌<◌, min}
-use native.Mathlib.Nat.{zero-add, suc-add}
+use mathlib.Core.List.{List, []}
+use Prim.Native.Nat.{ℕ, ◌+◌, ◌-◌, ◌≤◌, ◌<◌, min}
 use native.Mathlib.Omega.{arith}
 use borrow.Author.Tests.{leb-true, leb-false}
 use lib.Dec.{leb}
 use lib.ListN.{length, take, drop, length-take, length-drop}
-use lib.Seq.{take_all, take-nil, take-take, drop-drop}
+use lib.Seq.{take_all, take-take, drop-drop}
+use Rattle.std.proofs.lemmas.List.{drop-take}
 use Rattle.places.specs.Place.{part_of}
 
 -- as the code cuts it: the end is no further than the text's
@@ -41,11 +41,6 @@ unfolding part_of
 part_shift text k a b =
     let e : k + b - (k + a) ≡ b - a = omega arith in
     rw (e, ← drop-drop a k text)
-
-drop-take : (k n : ℕ) (l : List ℕ) → drop k (take (k + n) l) ≡ take n (drop k l)
-drop-take zero n l = rw (zero-add n)
-drop-take (suc k) n [] = rw (take-nil (suc k + n), take-nil n)
-drop-take (suc k) n (x ∷ l) = rw (suc-add k n) (drop-take k n l)
 
 -- a part of a text's front
 pub part_front : (l : List ℕ) (n start end : ℕ) → start ≤ end → end ≤ n → part_of (take n l) start end ≡ part_of l start end

@@ -25,34 +25,29 @@ pub struct Checked {
 pub fn least(a: usize, b: usize) -> usize
     ensures { result ≡ min a b }
 {
-    if a < b { a } else { b }
+    a.min(b)
 }
 
 // The difference, 0 where b is the larger.
 pub fn less(a: usize, b: usize) -> usize
     ensures { result ≡ a - b }
 {
-    if a < b {
-        return 0;
-    }
-    a - b
+    a.saturating_sub(b)
 }
 
 // The byte at a place, 0 past the end.
 pub fn byte_at(text: &[u8], at: usize) -> u8
     ensures { result ≡ get_or text.now at 0 }
 {
-    if at < text.len() {
-        return text[at];
-    }
-    0
+    text.get(at).copied().unwrap_or(0)
 }
 
 // The text from `start` up to `end`, as far as it goes, by places that lie within it.
+#[tactic(auto, using(crate::proofs::PlaceLaws::part_cut, crate::proofs::PlaceLaws::part_none), unfolding(crate::specs::Place::part_of))]
 pub fn clip(text: &[u8], start: usize, end: usize) -> Span
     ensures { Clips text.now start end result }
 {
-    let stop = least(end, text.len());
+    let stop = end.min(text.len());
     if stop <= start {
         return Span { start: 0, end: 0 };
     }
@@ -60,11 +55,10 @@ pub fn clip(text: &[u8], start: usize, end: usize) -> Span
 }
 
 // The bytes themselves.
+#[tactic(auto, unfolding(crate::specs::Place::part_of))]
 pub fn part(text: &[u8], start: usize, end: usize) -> &[u8]
     ensures { result.now ≡ part_of text.now start end }
 {
-    let s = clip(text, start, end);
-    let a = s.start;
-    let b = s.end;
-    &text[a..b]
+    let span = clip(text, start, end);
+    &text[span.start..span.end]
 }
