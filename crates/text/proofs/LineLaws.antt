@@ -2,7 +2,7 @@
 -- Assumes nothing.
 use mathlib.Core.Path.{◌≡◌, refl, ap, ◌∙◌}
 use mathlib.Core.Bool.{Bool, true, false, ◌&&◌}
-use mathlib.Core.List.{List, [], ◌∷◌, ◌++◌}
+use mathlib.Core.List.{List, [], ◌∷◌}
 use Prim.Native.Nat.{ℕ, suc, ◌+◌, ◌-◌, ◌≤◌, ◌<◌}
 use native.Mathlib.Nat.{suc-add, add_assoc, add-sub_cancel_left, sub_self}
 use native.Mathlib.Numerals.{add-one}
@@ -14,7 +14,7 @@ use Rattle.stream.specs.Bytes.{same}
 use Rattle.stream.specs.Lines.{crlf, ends_with, in_front, lines, before_empty, text_lines}
 use Rattle.stream.specs.Template.{starts_with}
 use Rattle.text.specs.Line.{line_length}
-use Rattle.text.proofs.SameLaws.{both_true, both_false, eqb_sym, starts_longer, starts_append}
+use Rattle.text.proofs.SameLaws.{both_true, both_false, eqb_sym, starts_longer}
 
 -- ---- CR LF at a place
 
@@ -26,15 +26,6 @@ pub crlf_one : (b : ℕ) → starts_with crlf (b ∷ []) ≡ false
 unfolding starts_with same
 crlf_one b = both_false (eqb 13 b)
 
-pub crlf_here : (s : List ℕ) (i : ℕ) → i + 1 < length s → starts_with crlf (drop i s) ≡ eqb (get_or s i 0) 13 && eqb (get_or s (i + 1) 0) 10
-crlf_here s i h =
-    let k : i < length s = omega arith in
-    let j : suc i < length s = omega arith in
-    rw (add-one i, drop-cons s i 0, drop-cons s (suc i) 0) (crlf_two (get_or s i 0) (get_or s (suc i) 0) (drop (suc (suc i)) s))
-
-pub crlf_short : (s : List ℕ) (i : ℕ) → length s < i + 2 → starts_with crlf (drop i s) ≡ false
-crlf_short s i h = starts_longer crlf (drop i s) (omega (arith, length-drop i s))
-
 -- ---- the end of a text
 
 pub ends_starts : (t l : List ℕ) → ends_with t l ≡ starts_with t (drop (length l - length t) l)
@@ -43,11 +34,6 @@ ends_starts t l = rw (take_all (length t) (drop (length l - length t) l) (omega 
 
 pub ends_short : (t l : List ℕ) → length l < length t → ends_with t l ≡ false
 ends_short t l h = ends_starts t l ∙ starts_longer t (drop (length l - length t) l) (omega (arith, length-drop (length l - length t) l))
-
-pub ends_twice : (s : List ℕ) → 4 ≤ length s → ends_with (crlf ++ crlf) s ≡ starts_with crlf (drop (length s - 4) s) && starts_with crlf (drop (length s - 2) s)
-ends_twice s h =
-    let e : length s - 4 + 2 ≡ length s - 2 = omega arith in
-    ends_starts (crlf ++ crlf) s ∙ starts_append crlf crlf (drop (length s - 4) s) ∙ rw (drop-drop 2 (length s - 4) s, e)
 
 -- ---- how long a line is
 

@@ -1,14 +1,15 @@
 -- Byte strings compared: what stands at a place of a text, and two names side by side. Assumes nothing.
 use mathlib.Core.Path.{◌≡◌, refl, sym, ap, ◌∙◌}
 use mathlib.Core.Bool.{Bool, true, false, ◌&&◌}
-use mathlib.Core.List.{List, [], ◌∷◌, ◌++◌}
+use mathlib.Core.List.{List, [], ◌∷◌}
 use Prim.Native.Nat.{ℕ, suc, ◌+◌, ◌≤◌, ◌<◌}
 use native.Mathlib.Numerals.{add-one}
 use native.Mathlib.Omega.{arith}
 use borrow.Author.Tests.{eqb-true, eqb-false, eq-eqb, ne_eqb}
 use lib.Dec.{eqb}
 use lib.ListN.{length, get_or, take, drop, drop_of_length-le, length-drop, length-take, length-map}
-use lib.Seq.{drop-cons, take_all}
+use lib.Seq.{drop-cons}
+use Rattle.std.specs.Cmp.Lexicographic.{pointwise}
 use Rattle.stream.specs.Bytes.{same, lower, lowered, same_name}
 use Rattle.stream.specs.Template.{starts_with}
 use Rattle.stream.proofs.Truth.{same_equal}
@@ -43,6 +44,14 @@ same_sym [] (y ∷ ys) = refl
 same_sym (x ∷ xs) [] = refl
 same_sym (x ∷ xs) (y ∷ ys) = rw (eqb_sym x y, same_sym xs ys)
 
+-- as `==` on slices has it
+pub same_is : (a b : List ℕ) → pointwise eqb a b ≡ same a b
+unfolding same
+same_is [] [] = refl
+same_is [] (y ∷ ys) = refl
+same_is (x ∷ xs) [] = refl
+same_is (x ∷ xs) (y ∷ ys) = ap (λ (t : Bool). eqb x y && t) (same_is xs ys)
+
 -- of another length, and so not the same
 pub same_length : (a b : List ℕ) → (length a ≡ length b → ⊥) → same a b ≡ false
 unfolding same
@@ -52,27 +61,6 @@ same_length (x ∷ xs) [] h = refl
 same_length (x ∷ xs) (y ∷ ys) h = rw (same_length xs ys (λ e. h (ap suc e))) (both_false (eqb x y))
 
 -- ---- a text at a place of another
-
-module _ (t s : List ℕ) (k i : ℕ) where
-  -- by one byte of each
-  starts_on : k < length t → i < length s → starts_with (drop k t) (drop i s) ≡ eqb (get_or t k 0) (get_or s i 0) && starts_with (drop (k + 1) t) (drop (i + 1) s)
-  unfolding starts_with same
-  starts_on h j = rw (add-one k, add-one i, drop-cons t k 0, drop-cons s i 0)
-
-  pub starts_agree : k < length t → i < length s → get_or t k 0 ≡ get_or s i 0 → starts_with (drop k t) (drop i s) ≡ starts_with (drop (k + 1) t) (drop (i + 1) s)
-  starts_agree h j e = starts_on h j ∙ rw (eq-eqb _ _ e)
-
-  pub starts_differ : k < length t → i < length s → (get_or t k 0 ≡ get_or s i 0 → ⊥) → starts_with (drop k t) (drop i s) ≡ false
-  starts_differ h j e = starts_on h j ∙ rw (ne_eqb _ _ e)
-
-  pub starts_short : k < length t → length s ≤ i → starts_with (drop k t) (drop i s) ≡ false
-  unfolding starts_with same
-  starts_short h j = rw (drop_of_length-le s, drop-cons t k 0)
-
--- nothing more is asked
-pub starts_all : (t l : List ℕ) (k : ℕ) → length t ≤ k → starts_with (drop k t) l ≡ true
-unfolding starts_with same
-starts_all t l k h = rw (drop_of_length-le t)
 
 -- a text that is longer than what it should start does not
 pub starts_longer : (t l : List ℕ) → length l < length t → starts_with t l ≡ false
@@ -88,18 +76,6 @@ pub starts_within : (t s : List ℕ) (i : ℕ) → starts_with t (drop i s) ≡ 
 starts_within t s i e h =
     let f = ap length (starts_is t (drop i s) e) in
     omega (arith, f, length-take (length t) (drop i s), length-drop i s)
-
--- one text after another
-pub starts_append : (t u l : List ℕ) → starts_with (t ++ u) l ≡ starts_with t l && starts_with u (drop (length t) l)
-unfolding starts_with same
-starts_append [] u l = refl
-starts_append (x ∷ t) u [] = refl
-starts_append (x ∷ t) u (y ∷ l) = ap (λ (b : Bool). eqb x y && b) (starts_append t u l) ∙ both_assoc (eqb x y) (starts_with t l) (starts_with u (drop (length t) l))
-
--- a text as long as the other
-pub starts_same : (t l : List ℕ) → length t ≡ length l → starts_with t l ≡ same t l
-unfolding starts_with
-starts_same t l e = rw (take_all (length t) l (omega arith))
 
 -- ---- two names side by side
 

@@ -1,16 +1,15 @@
--- What starts at `from` does so where the rest of `t` starts at `i`. Assumes nothing.
-use mathlib.Core.Path.{sym, ◌∙◌}
-use Rattle.text.proofs.SameLaws.{starts_agree, starts_differ, starts_short, starts_all}
+-- A place past the end is as the end; from there on std's `starts_with` asks the same. Assumes nothing.
+use mathlib.Core.Path.{◌∙◌}
+use native.Mathlib.Omega.{arith}
+use lib.ListN.{length}
+use Rattle.std.proofs.lemmas.List.{drop_min}
+use Rattle.std.proofs.lemmas.Slice.{between_to_end}
+use Rattle.stream.specs.Template.{starts_with}
+use Rattle.text.proofs.SameLaws.{same_is}
 use Rattle.text.proofs.compare.starts_with.Goals as goal
 
-pub returns-then-s-i : goal.returns-then-s-i
-returns-then-s-i c = sym (c.loop-k.invariant ∙ starts_short _ _ _ _ c.loop-k-test.true c.if-s-i.true)
-
-pub returns-then-t-k : goal.returns-then-t-k
-returns-then-t-k c = sym (c.loop-k.invariant ∙ starts_differ _ _ _ _ c.loop-k-test.true c.if-s-i.false c.if-t-k.true)
-
-pub loop-k-preserved : goal.loop-k-preserved
-loop-k-preserved c = c.loop-k.invariant ∙ starts_agree _ _ _ _ c.loop-k-test.true c.if-s-i.false c.if-t-k.false
-
 pub returns : goal.returns
-returns c = sym (c.loop-k.invariant ∙ starts_all _ _ _ c.loop-k-test.false)
+unfolding starts_with
+returns c =
+    let s = c.args.s.now in
+    rw (← drop_min c.args.from s, ← c.min.ensures, ← between_to_end s c.min.result (length s) (omega arith)) (c.starts_with.ensures.value ∙ same_is _ _)
