@@ -1,12 +1,16 @@
 -- Runs at a place of a text: how far a run goes from there, and what it leaves. Assumes nothing.
-use mathlib.Core.Path.{◌≡◌, refl, ap}
-use mathlib.Core.Bool.{Bool, true, false}
+use mathlib.Core.Path.{◌≡◌, refl, sym, ap, ◌∙◌}
+use mathlib.Core.Bool.{Bool, true, false, cond}
 use mathlib.Core.List.{List, [], ◌∷◌}
-use Prim.Native.Nat.{ℕ, suc, ◌+◌, ◌≤◌, ◌<◌}
+use Prim.Native.Nat.{ℕ, suc, min, ◌+◌, ◌-◌, ◌≤◌, ◌<◌}
 use native.Mathlib.Numerals.{add-one}
 use native.Mathlib.Omega.{arith}
 use lib.ListN.{length, get_or, take, drop, drop_of_length-le, length-drop}
 use lib.Seq.{drop-cons}
+use Rattle.std.specs.List.{prefix_len}
+use Rattle.std.proofs.lemmas.List.{drop_min}
+use Rattle.std.proofs.lemmas.List.Folds.{length-prefix_len}
+use Rattle.std.proofs.lemmas.Slice.{between_to_end}
 use Rattle.octets.specs.Choice.{pick}
 use Rattle.stream.specs.Template.{run, past}
 
@@ -51,6 +55,23 @@ past_drop p (b ∷ l) = go (p b) (past_drop p l)
     go : (t : Bool) → past p l ≡ drop (length (run p l)) l → elim t [ true ↦ past p l | false ↦ b ∷ l ] ≡ drop (length {A = ℕ} (elim t [ true ↦ b ∷ run p l | false ↦ [] ])) (b ∷ l)
     go true h = h
     go false h = refl
+
+-- as std counts it
+run_prefix : (p : ℕ → Bool) (l : List ℕ) → length (run p l) ≡ prefix_len p l
+unfolding run
+run_prefix p [] = refl
+run_prefix p (b ∷ l) = go (p b) (run_prefix p l)
+  where
+    go : (t : Bool) → length (run p l) ≡ prefix_len p l → length {A = ℕ} (elim t [ true ↦ b ∷ run p l | false ↦ [] ]) ≡ cond t (1 + prefix_len p l) 0
+    go true h = omega (arith, h)
+    go false h = refl
+
+pub run_count : (p : ℕ → Bool) (l : List ℕ) → length (take (prefix_len p l) l) ≡ length (run p l)
+run_count p l = length-prefix_len p l ∙ sym (run_prefix p l)
+
+-- the text from a place on, or from its end where the place is past that
+pub rest_from : (s : List ℕ) (i k : ℕ) → k ≡ min i (length s) → take (length s - k) (drop k s) ≡ drop i s
+rest_from s i k e = between_to_end s k (length s) (omega arith) ∙ rw e (drop_min i s)
 
 pub run_le : (p : ℕ → Bool) (l : List ℕ) → length (run p l) ≤ length l
 unfolding run

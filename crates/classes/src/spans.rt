@@ -5,16 +5,18 @@ ghost use Rattle.classes.specs.Span.{span_of};
 use crate::{Class, is_in, run_end};
 use places::Span;
 
+#[tactic(auto, using(crate::proofs::RunLaws::run_le))]
 pub fn trim(s: &[u8]) -> Span
     ensures { result ≡ span_of s.now }
 {
     let start = run_end(s, 0, Class::Blank);
-    let mut end = s.len();
-    while start < end {
-        if !is_in(Class::Blank, s[end - 1]) {
-            return Span { start, end };
-        }
-        end -= 1;
+    let behind = s[start..]
+        .iter()
+        .rev()
+        .take_while(|b| is_in(Class::Blank, **b))
+        .count();
+    Span {
+        start,
+        end: s.len() - behind,
     }
-    Span { start, end }
 }
