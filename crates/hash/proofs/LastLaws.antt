@@ -1,12 +1,12 @@
 -- The blocks of a message in parts, and its last blocks with the padding.
 -- Assumes nothing.
-use Rattle.std.proofs.Common.{◌≡◌, ℕ, zero, suc, ◌+◌, ◌-◌, ◌*◌, ◌/◌, ◌%◌, ◌^◌, ◌<◌, ◌≤◌, List, [], ◌∷◌, ◌++◌, length, take, drop, set, replicate, sym, refl, ap, ◌∙◌, ap₂, append_assoc, suc-mul, add_comm, suc-add, zero-add, zero-mul, mul-div_cancel, arith, lit<, length-append, length-drop, take-append-drop, length-take-le, drop-drop, take_at, drop_at}
-use native.Mathlib.Nat.{add-mul-div_right, mod-mod}
+use Rattle.std.proofs.Common.{◌≡◌, ℕ, zero, suc, ◌+◌, ◌-◌, ◌*◌, ◌/◌, ◌%◌, ◌^◌, ◌<◌, ◌≤◌, List, [], ◌∷◌, ◌++◌, length, take, drop, set, replicate, sym, refl, ap, ◌∙◌, ap₂, append_assoc, suc-mul, add_comm, suc-add, zero-add, zero-mul, arith, lit<, length-append, length-drop, take-append-drop, length-take-le, drop-drop, take_at, drop_at}
+use native.Mathlib.Nat.{add-mul-div_right, div-eq_of_lt}
 use lib.ListN.{length-replicate, replicate-append-replicate}
 use lib.Seq.{take-append-le, drop-append-le, take-append_seam, set_at}
 use Rattle.hash.specs.Sha2.{Variant, width, block_size, big_endian, zeros, padding, padded, number, parsed, compressed, hashed, blocks, unparsed, digest, finished}
 use Rattle.hash.specs.Sha512.{variant, initial_words, sha512}
-use Rattle.hash.specs.Parts.{written, last_blocks}
+use Rattle.hash.specs.Parts.{written, last_blocks, last_hashed}
 use Rattle.hash.proofs.ByteLaws.{long_bytes, bytes_split, bytes_mod, written_seam}
 
 -- the first n blocks, and then k more
@@ -61,6 +61,16 @@ hashed_split v w p q s h k =
     ap (λ (i : ℕ). hashed v i (p ++ q) s) (blocks_split v w p q h k)
     ∙ hashed_add v w (blocks v q) (p ++ q) s
     ∙ ap₂ (λ (x y : List ℕ). hashed v (blocks v q) x y) (drop_at p q (w * b) k) (hashed_front v w p q s f)
+
+-- a block more, and the end
+pub hashed_turn : (v : Variant) (p b q s r : List ℕ) → 0 < v.bytes → p ≡ b ++ q → length b ≡ block_size v → r ≡ compressed v (parsed v 16 b) s → hashed v (blocks v p) p s ≡ hashed v (blocks v q) q r
+unfolding hashed
+hashed_turn v p b q s r h e l f =
+    ap (λ (x : List ℕ). hashed v (blocks v x) x s) e ∙ hashed_split v 1 b q s h (omega (arith, l)) ∙ ap (hashed v (blocks v q) q) (sym f)
+
+pub hashed_end : (v : Variant) (p s : List ℕ) → length p < block_size v → hashed v (blocks v p) p s ≡ s
+unfolding hashed
+hashed_end v p s h = ap (λ (i : ℕ). hashed v i p s) (div-eq_of_lt h)
 
 -- a message's first w blocks are hashed, and the rest is left
 pub finished_add : (v : Variant) (n w : ℕ) (p d s : List ℕ) → 0 < v.bytes → length p ≡ w * block_size v → finished v n (p ++ d) s ≡ finished v n d (hashed v w p s)
@@ -145,65 +155,23 @@ laid_out b z o size n i j rest t u w high low e ei ej es f g k =
     let x : (p ++ big_endian b high) ++ big_endian b low ≡ rest ++ (128 ∷ (blank z ++ (big_endian b high ++ big_endian b low))) = simp append_assoc in
     w1 ∙ ap (λ (l : List ℕ). l ++ blank o) x
 
-pub laid : (v : Variant) (size : ℕ) (rest t u w : List ℕ) (high low n end : ℕ)
-    → n ≡ length rest → end ≡ n + 1 + zeros v (length rest) + 2 * v.bytes → end ≤ size
-    → t ≡ written (blank size) 0 rest → u ≡ written (set t n 128) (end - 2 * v.bytes) (big_endian v.bytes high) → w ≡ written u (end - v.bytes) (big_endian v.bytes low)
+pub laid : (v : Variant) (size : ℕ) (rest t u w : List ℕ) (high low n end i j : ℕ)
+    → n ≡ length rest → end ≡ n + 1 + zeros v n + 2 * v.bytes → end ≤ size → i ≡ end - 2 * v.bytes → j ≡ end - v.bytes
+    → t ≡ written (blank size) 0 rest → u ≡ written (set t n 128) i (big_endian v.bytes high) → w ≡ written u j (big_endian v.bytes low)
     → take (length (last_blocks v rest high low)) w ≡ last_blocks v rest high low
 unfolding last_blocks
-laid v size rest t u w high low n end e d r f g k =
+laid v size rest t u w high low n end i j e d r ei ej f g k =
     let q = last_blocks v rest high low in
-    ap (take (length q)) (go v.bytes (zeros v (length rest)) d f g k) ∙ take-append_seam q (blank (size - end))
+    let d1 : end ≡ n + 1 + zeros v (length rest) + 2 * v.bytes = d ∙ ap (λ (i : ℕ). n + 1 + zeros v i + 2 * v.bytes) e in
+    ap (take (length q)) (go v.bytes (zeros v (length rest)) d1 ei ej g k) ∙ take-append_seam q (blank (size - end))
   where
-    first : (b m end : ℕ) → end ≡ m + 2 * b → end - 2 * b ≡ m
-    first b m end h = omega arith
+    go : (b z : ℕ) → end ≡ n + 1 + z + 2 * b → i ≡ end - 2 * b → j ≡ end - b → u ≡ written (set t n 128) i (big_endian b high) → w ≡ written u j (big_endian b low) → w ≡ (rest ++ (128 ∷ (blank z ++ (big_endian b high ++ big_endian b low)))) ++ blank (size - end)
+    go b z d ei ej g k = laid_out b z (size - end) size n i j rest t u w high low e (omega arith) (omega arith) (omega arith) f g k
 
-    second : (b m end : ℕ) → end ≡ m + 2 * b → end - b ≡ end - 2 * b + b
-    second b m end h = omega arith
-
-    all : (b m end size : ℕ) → end ≡ m + 2 * b → end ≤ size → size ≡ end - b + b + (size - end)
-    all b m end size h l = omega arith
-
-    go : (b z : ℕ) → end ≡ n + 1 + z + 2 * b → t ≡ written (blank size) 0 rest → u ≡ written (set t n 128) (end - 2 * b) (big_endian b high) → w ≡ written u (end - b) (big_endian b low) → w ≡ (rest ++ (128 ∷ (blank z ++ (big_endian b high ++ big_endian b low)))) ++ blank (size - end)
-    go b z d f g k =
-        laid_out b z (size - end) size n (end - 2 * b) (end - b) rest t u w high low e (first b (n + 1 + z) end d) (second b (n + 1 + z) end d) (all b (n + 1 + z) end size d r) f g k
-
--- the last blocks, c of them, from where they were filled in
-pub last_hashed : (v : Variant) (n c : ℕ) (rest s t : List ℕ) (high low : ℕ) → 0 < v.bytes
-    → last_blocks v rest high low ≡ rest ++ padding v n → length (last_blocks v rest high low) ≡ c * block_size v
-    → take (length (last_blocks v rest high low)) t ≡ last_blocks v rest high low
-    → unparsed v (hashed v c t s) ≡ finished v n rest s
+-- the hash of a message of n bytes, from its last blocks
+pub closed : (v : Variant) (n : ℕ) (rest s : List ℕ) (high low : ℕ) → zeros v (length rest) ≡ zeros v n → high % 2 ^ width v ≡ 8 * n / 2 ^ width v % 2 ^ width v → low % 2 ^ width v ≡ 8 * n % 2 ^ width v → last_hashed v (last_blocks v rest high low) s ≡ finished v n rest s
 unfolding finished
-last_hashed v n c rest s t high low h e l k =
-    let q = last_blocks v rest high low in
-    let b = block_size v in
-    let m : length q / b ≡ c = ap (λ (i : ℕ). i / b) l ∙ mul-div_cancel c {n = b} (omega arith) in
-    let t1 : t ≡ q ++ drop (length q) t = sym (ap (λ (x : List ℕ). x ++ drop (length q) t) (sym k) ∙ take-append-drop (length q) t) in
-    let fr : hashed v c t s ≡ hashed v c q s = ap (λ (x : List ℕ). hashed v c x s) t1 ∙ hashed_front v c q (drop (length q) t) s (omega arith) in
-    ap (unparsed v) (fr ∙ ap (λ (i : ℕ). hashed v i q s) (sym m)) ∙ ap (λ (x : List ℕ). unparsed v (hashed v (length x / b) x s)) e
-
--- SHA-512: the last bytes end a block, and the whole blocks come before them
-long_two : (rest : List ℕ) (high low : ℕ) → length rest < 128 → length (last_blocks variant rest high low) ≡ (1 + (length rest + 16) / 128) * 128
-long_two rest high low h = omega (arith, long_last variant rest high low)
-
-pub finish_is : (n w : ℕ) (b f s h t l : List ℕ) (high low : ℕ)
-    → w ≡ length b / 128 → f ≡ drop (w * 128) b → h ≡ hashed variant w b s
-    → high ≡ 8 * (n * 128 + length b) / 2 ^ 64 → low ≡ 8 * (n * 128 + length b) % 2 ^ 64
-    → take (length (last_blocks variant f high low)) t ≡ last_blocks variant f high low
-    → l ≡ hashed variant (1 + (length b - w * 128 + 16) / 128) t h
-    → unparsed variant l ≡ finished variant (n * 128 + length b) b s
-finish_is n w b f s h t l high low d e g hi lo k m =
-    let p = take (w * 128) b in
-    let i = n * 128 + length b in
-    let c = 1 + (length b - w * 128 + 16) / 128 in
-    let bs : p ++ f ≡ b = ap (λ (x : List ℕ). p ++ x) e ∙ take-append-drop (w * 128) b in
-    let lf : length f ≡ length b - w * 128 = ap length e ∙ length-drop (w * 128) b in
-    let lp : length p ≡ w * 128 = omega (arith, length-append p f, ap length bs) in
-    let y : hashed variant w p s ≡ h = sym (hashed_front variant w p f s (omega arith)) ∙ ap (λ (x : List ℕ). hashed variant w x s) bs ∙ sym g in
-    let z : zeros variant (length f) ≡ zeros variant i = omega arith in
-    let q : last_blocks variant f high low ≡ f ++ padding variant i = last_is_lem variant i f high low z (ap (λ (x : ℕ). x % 2 ^ 64) hi) (ap (λ (x : ℕ). x % 2 ^ 64) lo ∙ mod-mod (8 * i) (2 ^ 64)) in
-    let lq : length (last_blocks variant f high low) ≡ c * 128 = rw lf at (long_two f high low (omega arith)) in
-    ap (unparsed variant) m ∙ last_hashed variant i c f h t high low (lit< tt) q lq k
-    ∙ sym (ap (λ (x : List ℕ). finished variant i x s) (sym bs) ∙ finished_add variant i w p f s (lit< tt) lp ∙ ap (finished variant i f) y)
+closed v n rest s high low z e f = ap (λ (l : List ℕ). last_hashed v l s) (last_is_lem v n rest high low z e f)
 
 pub hash_all : (m : List ℕ) → finished variant (length m) m initial_words ≡ sha512 m
 unfolding sha512
@@ -215,13 +183,13 @@ after_short a d t u h k e f =
     let g : take (64 + length d) u ≡ a ++ d = ap (take (64 + length d)) (both_written 128 64 a d t u h (omega arith) e f) ∙ take_at (a ++ d) _ (64 + length d) l in
     ap (λ (x : List ℕ). finished variant (length x) x initial_words) g ∙ hash_all (a ++ d)
 
-pub after_long : (a m t u s : List ℕ) → length a ≡ 64 → 64 ≤ length m → t ≡ written (blank 128) 0 a → u ≡ written t 64 (take 64 m) → s ≡ hashed variant 1 u initial_words → finished variant (128 + length (drop 64 m)) (drop 64 m) s ≡ sha512 (a ++ m)
-after_long a m t u s h k e f g =
+pub after_long : (a m t u s : List ℕ) → length a ≡ 64 → 64 ≤ length m → t ≡ written (blank 128) 0 a → u ≡ written t 64 (take 64 m) → length u ≡ 128 → s ≡ hashed variant (blocks variant u) u initial_words → finished variant (128 + length (drop 64 m)) (drop 64 m) s ≡ sha512 (a ++ m)
+after_long a m t u s h k e f lu g =
     let d = take 64 m in
     let b = a ++ d in
     let ld : length d ≡ 64 = length-take-le 64 m k in
     let l : length b ≡ 1 * 128 = omega (arith, length-append a d) in
-    let v : s ≡ hashed variant 1 b initial_words = g ∙ ap (λ (x : List ℕ). hashed variant 1 x initial_words) (both_written 128 64 a d t u h (omega arith) e f) ∙ hashed_front variant 1 b _ initial_words (omega arith) in
+    let v : s ≡ hashed variant 1 b initial_words = g ∙ ap (λ (i : ℕ). hashed variant (i / 128) u initial_words) lu ∙ ap (λ (x : List ℕ). hashed variant 1 x initial_words) (both_written 128 64 a d t u h (omega arith) e f) ∙ hashed_front variant 1 b _ initial_words (omega arith) in
     let w : b ++ drop 64 m ≡ a ++ m = append_assoc a d (drop 64 m) ∙ ap (λ (x : List ℕ). a ++ x) (take-append-drop 64 m) in
     let n : 128 + length (drop 64 m) ≡ length (a ++ m) = omega (arith, ap length w, length-append b (drop 64 m)) in
     ap₂ (λ (i : ℕ) (x : List ℕ). finished variant i (drop 64 m) x) n v ∙ sym (finished_add variant (length (a ++ m)) 1 b (drop 64 m) initial_words (lit< tt) l) ∙ ap (λ (x : List ℕ). finished variant (length (a ++ m)) x initial_words) w ∙ hash_all (a ++ m)

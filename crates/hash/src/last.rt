@@ -1,62 +1,55 @@
-// A message's end: the padding (FIPS 180-4, 5.1.2) and the last blocks.
-ghost use Rattle.std.specs.Prelude.{◌≡◌, ◌+◌, ◌*◌, ◌/◌, ◌%◌, ◌^◌, ◌<◌, ◌≤◌, length, take};
-ghost use Rattle.hash.specs.Sha2.{finished};
-ghost use Rattle.hash.specs.Sha512.{variant, round_words};
-ghost use Rattle.hash.specs.Parts.{last_blocks};
+// A message's end: the padding (FIPS 180-4, 5.1) and the last blocks, whatever the words are.
+ghost use Rattle.std.specs.Prelude.{◌≡◌, ◌+◌, ◌*◌, ◌%◌, ◌<◌, ◌≤◌, length, take, map};
+ghost use Rattle.hash.specs.Sha2.{block_size, zeros};
+ghost use Rattle.hash.specs.Parts.{by_table, last_blocks, last_hashed};
 
 use crate::block::compress_all;
 use crate::bytes::{bytes_of, copy, put_word};
+use crate::words::{Sha2, Words};
 
-// The high word of the length in bits of a message of seen blocks, one at most, and n bytes more.
-// Bytes are counted in eights, so that no sum wraps whatever n is.
-fn bits_high(seen: usize, n: usize) -> u64
-    requires { seen ≤ 1 }
-    ensures { result ≡ 8 * (seen * 128 + n) / 2 ^ 64 }
+// How many bytes n last ones are with the padding: a block, or two where the first has no room for the length.
+fn padded<S: Words>(n: usize) -> usize
+    requires { n < block_size S.variant }
+    ensures long { result ≡ n + 1 + zeros S.variant n + 2 * S.variant.bytes }
+    ensures room { result ≤ 2 * block_size S.variant }
 {
-    ((seen * 16 + n / 8) / 0x0400_0000_0000_0000) as u64
-}
-
-// The low word of that length.
-fn bits_low(seen: usize, n: usize) -> u64
-    requires { seen ≤ 1 }
-    ensures { result ≡ 8 * (seen * 128 + n) % 2 ^ 64 }
-{
-    ((seen * 16 + n / 8) % 0x0400_0000_0000_0000 * 64 + n % 8 * 8) as u64
-}
-
-// How many blocks the last n bytes fill with the padding.
-fn count(n: usize) -> usize
-    requires { n < 128 }
-    ensures { result ≡ 1 + (n + 16) / 128 }
-{
-    1 + (n + 16) / 128
+    let block = 16 * S::BYTES;
+    if n + S::LENGTH < block {
+        block
+    } else {
+        2 * block
+    }
 }
 
 // The last bytes with the padding, in the first of two blocks or in both. What stands after them is not read.
-fn fill(rest: &[u8], high: u64, low: u64) -> [u8; 256]
-    requires { length rest.now < 128 }
-    ensures { take (length (last_blocks variant rest.now high low)) result ≡ last_blocks variant rest.now high low }
+fn fill<S: Words>(rest: &[u8], high: S::Word, low: S::Word) -> [u8; 256]
+    requires { length rest.now < block_size S.variant }
+    ensures { take (length (last_blocks S.variant rest.now (S.value high) (S.value low))) result ≡ last_blocks S.variant rest.now (S.value high) (S.value low) }
 {
     let mut t = [0u8; 256];
     let n = rest.len();
-    let end = count(n) * 128;
+    let end = padded::<S>(n);
     copy(&mut t, 0, rest);
     t[n] = 128;
-    put_word(&mut t, end - 16, high);
-    put_word(&mut t, end - 8, low);
+    put_word::<S>(&mut t, end - S::LENGTH, high);
+    put_word::<S>(&mut t, end - S::BYTES, low);
     t
 }
 
-// The hash of a message whose first blocks, seen of them, are hashed to the value before, and whose other bytes are body.
-pub(crate) fn finish(words: &[u64; 80], before: [u64; 8], seen: usize, body: &[u8]) -> [u8; 64]
-    requires { (words.now ≡ round_words) × (seen ≤ 1) }
-    ensures { result ≡ finished variant (seen * 128 + length body.now) body.now before }
+// The hash of a message whose first blocks are hashed to the value s, whose other bytes are body, and whose length in bits high and low write.
+pub fn close<S: Sha2<ROUNDS, SIZE>, const ROUNDS: usize, const SIZE: usize>(
+    words: &[S::Word; ROUNDS],
+    s: [S::Word; 8],
+    body: &[u8],
+    high: S::Word,
+    low: S::Word,
+) -> [u8; SIZE]
+    ensures { let v = by_table S.variant (map S.value words.now) in
+        result ≡ last_hashed v (last_blocks v body.now (S.value high) (S.value low)) (map S.value s) }
 {
-    let n = body.len();
-    let whole = n / 128;
-    let from = whole * 128;
-    let h = compress_all(words, body, whole, before);
-    let t = fill(&body[from..n], bits_high(seen, n), bits_low(seen, n));
-    let last = compress_all(words, &t, count(n - from), h);
-    bytes_of(last)
+    let h = compress_all::<S, ROUNDS, SIZE>(words, body, s);
+    let rest = &body[body.len() - body.len() % (16 * S::BYTES)..];
+    let t = fill::<S>(rest, high, low);
+    let last = compress_all::<S, ROUNDS, SIZE>(words, &t[..padded::<S>(rest.len())], h);
+    bytes_of::<S, SIZE>(last)
 }

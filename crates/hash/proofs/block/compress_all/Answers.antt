@@ -1,23 +1,17 @@
 -- The hash value of all blocks is that of the blocks left, from the value now.
-use Rattle.std.proofs.Common.{◌*◌, drop, sym, ◌∙◌, arith}
-use native.Mathlib.Nat.{sub-zero}
-use Rattle.hash.specs.Sha512.{variant}
-use Rattle.hash.proofs.BlockLaws.{hashed_turn, hashed_end}
+use Rattle.std.proofs.Common.{◌<◌, map, sym, ◌∙◌, arith, rules}
+use Rattle.hash.specs.Parts.{by_table}
+use Rattle.hash.proofs.LastLaws.{hashed_turn, hashed_end}
 use Rattle.hash.proofs.block.compress_all.Goals as goal
 
-pub loop-i-init : goal.loop-i-init
-loop-i-init c = (rw (sub-zero c.args.n), omega arith, c.requires.0, c.requires.1)
-
-pub compress-next-requires : goal.compress-next-requires
-compress-next-requires c = (c.loop-i.invariant.2, omega arith)
-
-pub loop-i-preserved : goal.loop-i-preserved
-loop-i-preserved c = (
-  c.loop-i.invariant.0 ∙ hashed_turn variant c.args.p.now c.loop-i.s c.compress-next.result c.args.n c.loop-i.i c.loop-i-test.true c.compress-next.ensures,
-  omega arith,
-  c.loop-i.invariant.2,
-  c.loop-i.invariant.3,
-)
+pub loop-block-preserved : goal.loop-block-preserved
+loop-block-preserved g c =
+    let f = g.S.Words.value in
+    let v = by_table g.S.Words.variant (map f c.args.words.now) in
+    let some : 0 < v.bytes = omega (arith, g.met.S.Words.bytes_are, g.met.S.Words.bytes_fit) in (
+      c.loop-block.invariant.0 ∙ hashed_turn v c.loop-block.block-iterator.rest.now c.in-Some.block.now c.next.new.self.rest.now (map f c.loop-block.s) (map f c.compress-s.result) some (search rules) (search rules) c.compress-s.ensures,
+      search rules,
+    )
 
 pub returns : goal.returns
-returns c = sym (c.loop-i.invariant.0 ∙ hashed_end variant (drop (c.loop-i.i * 128) c.args.p.now) c.loop-i.s c.args.n c.loop-i.i c.loop-i-test.false)
+returns g c = sym (c.loop-block.invariant.0 ∙ hashed_end (by_table g.S.Words.variant (map g.S.Words.value c.args.words.now)) c.loop-block.block-iterator.rest.now (map g.S.Words.value c.loop-block.s) (search rules))

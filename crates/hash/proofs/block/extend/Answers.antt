@@ -1,21 +1,22 @@
 -- The words made so far stand in front of those of the entry.
-use Rattle.std.proofs.Common.{take, sym, arith, take-append-drop, length-take-le}
+use Rattle.std.proofs.Common.{◌+◌, map, take, ◌∙◌, length-take-le, rules}
+use Rattle.std.proofs.lemmas.List.{length-map, map-set}
 use Rattle.hash.specs.Sha2.{schedule}
-use Rattle.hash.specs.Sha512.{variant}
-use Rattle.hash.proofs.BlockLaws.{schedule_turn, schedule_end}
+use Rattle.hash.proofs.BlockLaws.{schedule_turn}
 use Rattle.hash.proofs.block.extend.Goals as goal
 
 pub loop-t-init : goal.loop-t-init
 unfolding schedule
-loop-t-init c = (sym (take-append-drop 16 c.args.w.now), omega arith, c.requires)
+loop-t-init g c = search rules
 
 pub loop-t-preserved : goal.loop-t-preserved
-loop-t-preserved c =
-    let d = c.args.w.now in (
-      schedule_turn variant (take 16 d) d c.loop-t.w c.loop-t.t c.next_word-x.result (length-take-le 16 d (omega arith)) (omega arith) c.loop-t.invariant.0 c.next_word-x.ensures,
-      omega arith,
+loop-t-preserved g c =
+    let f = g.S.Words.value in
+    let d = map f c.args.w.now in
+    let t = c.loop-t.t in (
+      map-set f c.loop-t.w (t + 16) c.next_word.result
+          ∙ schedule_turn g.S.Words.variant (take 16 d) d (map f c.loop-t.w) t (f c.next_word.result) (length-take-le 16 d (simp length-map (search rules))) (simp length-map (search rules)) c.loop-t.invariant.0 c.next_word.ensures,
+      search rules,
       c.loop-t.invariant.2,
+      c.loop-t.invariant.3,
     )
-
-pub returns : goal.returns
-returns c = schedule_end variant _ c.args.w.now c.loop-t.w c.loop-t.t 64 (omega arith) c.loop-t.invariant.2 c.loop-t.invariant.0

@@ -1,11 +1,10 @@
 -- The words made so far stand in front of those of the entry.
-use Rattle.std.proofs.Common.{◌≡◌, ◌+◌, ◌-◌, ◌≤◌, ◌++◌, length, take, drop}
+use Rattle.std.proofs.Common.{◌≡◌, ◌+◌, ◌≤◌, ◌++◌, length, take, drop, map}
 use Rattle.hash.specs.Sha2.{schedule}
-use Rattle.hash.specs.Sha512.{variant}
 use Rattle.hash.proofs.block.extend.Given as goal
 
 abbrev pub invariant-loop-t : goal.invariant-loop-t
-invariant-loop-t l = (l.w ≡ schedule variant l.t (take 16 l.initial.w) ++ drop (l.t + 16) l.initial.w) × (l.t ≤ 64) × (length l.initial.w ≡ 80)
-
-abbrev pub decreases-loop-t : goal.decreases-loop-t
-decreases-loop-t l = 64 - l.t
+invariant-loop-t g l =
+    let d = map g.S.Words.value l.initial.w in
+    (map g.S.Words.value l.w ≡ schedule g.S.Words.variant l.t (take 16 d) ++ drop (l.t + 16) d)
+    × (length l.w ≡ g.row.ROUNDS) × (length l.initial.w ≡ g.row.ROUNDS) × (16 ≤ g.row.ROUNDS)

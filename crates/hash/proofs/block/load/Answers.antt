@@ -1,22 +1,24 @@
 -- The words read so far stand in front of those of the entry.
-use Rattle.std.proofs.Common.{drop, refl, arith}
+use Rattle.std.proofs.Common.{map, sym, ◌∙◌, rules}
+use Rattle.std.proofs.lemmas.List.{length-map, map-set}
 use Rattle.hash.specs.Sha2.{parsed}
-use Rattle.hash.specs.Sha512.{variant}
-use Rattle.hash.proofs.BlockLaws.{parse_turn, parse_place, parse_end}
+use Rattle.hash.proofs.BlockLaws.{parse_turn, parse_place}
 use Rattle.hash.proofs.block.load.Goals as goal
 
 pub loop-i-init : goal.loop-i-init
 unfolding parsed
-loop-i-init c = (refl, omega arith, c.requires.0, c.requires.1)
+loop-i-init g c = search rules
 
 pub loop-i-preserved : goal.loop-i-preserved
-loop-i-preserved c = (
-  parse_turn variant (drop c.args.at c.args.p.now) _ c.loop-i.w c.loop-i.i c.word_at.result c.loop-i.invariant.0 (omega arith)
-      (parse_place variant c.args.p.now c.args.at c.loop-i.i c.word_at.result c.word_at.ensures),
-  omega arith,
-  c.loop-i.invariant.2,
-  c.loop-i.invariant.3,
-)
-
-pub returns : goal.returns
-returns c = parse_end variant (drop c.args.at c.args.p.now) c.args.w.now c.loop-i.w c.loop-i.i (omega arith) c.loop-i.invariant.0
+loop-i-preserved g c =
+    let v = g.S.Words.variant in
+    let f = g.S.Words.value in
+    let p = c.args.block.now in
+    let size = sym g.met.S.Words.bytes_are in (
+      map-set f c.loop-i.w c.loop-i.i c.read.result
+          ∙ parse_turn v p (map f c.args.w.now) (map f c.loop-i.w) c.loop-i.i (f c.read.result) c.loop-i.invariant.0 (simp length-map (search rules))
+          (parse_place v p _ _ c.loop-i.i (f c.read.result) (c.BYTES.ensures ∙ size) (c.BYTES-in-loop-i.ensures ∙ size) c.read.ensures),
+      search rules,
+      c.loop-i.invariant.2,
+      c.loop-i.invariant.3,
+    )

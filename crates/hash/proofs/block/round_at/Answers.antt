@@ -1,7 +1,13 @@
--- The round by the table's word, which is the standard's.
-use Rattle.hash.specs.Sha512.{variant}
-use Rattle.hash.proofs.BlockLaws.{round_by}
+-- A round by a table's word.
+use Rattle.std.proofs.Common.{ℕ, map, sym, ◌∙◌, ap₂, rules}
+use Rattle.std.proofs.lemmas.List.{get_or-map}
+use Rattle.hash.specs.Sha2.{round}
 use Rattle.hash.proofs.block.round_at.Goals as goal
 
 pub returns : goal.returns
-returns c = round_by variant c.args.words.now c.args.w.now c.args.s c.step.result c.args.i c.requires.0 c.step.ensures
+unfolding round
+returns g c =
+    let f = g.S.Words.value in
+    let i = c.args.i in
+    c.step.ensures
+    ∙ ap₂ (λ (k x : ℕ). round g.S.Words.variant k x (map f c.args.s)) (sym (get_or-map f c.args.words.now i _ 0 (search rules))) (sym (get_or-map f c.args.w.now i _ 0 (search rules)))
