@@ -1,11 +1,11 @@
 -- What the functions make of a midstate, held to its definition.
 -- Assumes nothing.
-use Rattle.std.proofs.Common.{◌≡◌, ℕ, ◌+◌, ◌-◌, ◌*◌, ◌/◌, ◌%◌, ◌^◌, ◌<◌, ◌≤◌, List, ◌++◌, length, take, drop, set, sym, ap, ◌∙◌, ap₂, append_assoc, arith, lit<, length-append, length-drop, take-append-drop, length-take-le, take_all}
+use Rattle.std.proofs.Common.{◌≡◌, ℕ, ◌+◌, ◌-◌, ◌*◌, ◌/◌, ◌%◌, ◌^◌, ◌<◌, ◌≤◌, List, ◌++◌, length, take, drop, sym, ap, ◌∙◌, ap₂, append_assoc, arith, length-append, length-drop, take-append-drop, length-take-le, take_all}
 use native.Mathlib.Nat.{sub-zero, mod-mod}
 use lib.Seq.{paste, take-length, drop-append-add}
-use Rattle.hash.specs.Sha2.{big_endian, zeros, padding, hashed, blocks, left, unparsed, finished}
-use Rattle.hash.specs.Parts.{written, last_blocks}
-use Rattle.hash.proofs.LastLaws.{hashed_add, hashed_front, last_is_lem, long_last, laid, last_hashed, blank, written_blank, both_written}
+use Rattle.hash.specs.Sha2.{zeros, hashed, blocks, left, finished}
+use Rattle.hash.specs.Parts.{written, last_blocks, last_hashed}
+use Rattle.hash.proofs.LastLaws.{hashed_add, hashed_front, closed, blank, written_blank, both_written}
 use Rattle.places.specs.Writing.{placed, room, wrote}
 use Rattle.places.proofs.WritingLaws.{bytes_are, same_size}
 use Rattle.sha256.specs.Sha256.{variant}
@@ -114,9 +114,10 @@ module _ (h : Midstate) (b : List ℕ) (n : ℕ) (l : length h.rest ≡ 64) (e :
       let lt : length t ≡ 64 = same_size (blank 64) 0 (take (n - 0) h.rest) i t et in
       made h.words u c (keep_words n h.rest b l below m h.words) (keep_rest n h.rest b l below m t u ft (put_fits t b u n j (omega arith) eu)) ec
 
-  pub close_is : (t : List ℕ) (i : ℕ) → (n ≡ 0 → ⊥) → 64 ≤ h.count % 64 + length b → placed i t ≡ wrote h.rest n b → hashed variant 1 t h.words ≡ hashed variant ((h.count % 64 + 63) / 64) (pending h ++ b) h.words
-  close_is t i z k et =
-      close_one n h.rest b l below t h.words (omega arith) (omega arith) (put_some h.rest b t n i (64 - n) (omega arith) (omega arith) et)
+  pub close_is : (t : List ℕ) (i : ℕ) → (n ≡ 0 → ⊥) → 64 ≤ h.count % 64 + length b → placed i t ≡ wrote h.rest n b → length t ≡ 64 → hashed variant (blocks variant t) t h.words ≡ hashed variant ((h.count % 64 + 63) / 64) (pending h ++ b) h.words
+  close_is t i z k et lt =
+      ap (λ (x : ℕ). hashed variant (x / 64) t h.words) lt
+      ∙ close_one n h.rest b l below t h.words (omega arith) (omega arith) (put_some h.rest b t n i (64 - n) (omega arith) (omega arith) et)
       ∙ ap (λ (x : ℕ). hashed variant ((x + 63) / 64) (take x h.rest ++ b) h.words) e
 
   pub close_not : n ≡ 0 → h.words ≡ hashed variant ((h.count % 64 + 63) / 64) (pending h ++ b) h.words
@@ -126,13 +127,14 @@ module _ (h : Midstate) (b : List ℕ) (n : ℕ) (l : length h.rest ≡ 64) (e :
   pub pass_is : (from whole end : ℕ) (f g t : List ℕ) (i c : ℕ)
       → from ≡ (64 - n) % 64 → whole ≡ (length b - from) / 64 → end ≡ from + whole * 64 → 64 ≤ h.count % 64 + length b
       → f ≡ hashed variant ((h.count % 64 + 63) / 64) (pending h ++ b) h.words
-      → g ≡ hashed variant whole (take (length b - from) (drop from b)) f
+      → g ≡ hashed variant (blocks variant (take (length b - from) (drop from b))) (take (length b - from) (drop from b)) f
       → placed i t ≡ wrote (blank 64) 0 (take (length b - end) (drop end b))
       → c ≡ (h.count + length b) % 2 ^ 64 → record { words = g; rest = t; count = c } ≡ added h b
   pass_is from whole end f g t i c ef ew ee k e1 e2 e3 ec =
       let m : 64 ≤ n + length b = omega arith in
       let f1 = e1 ∙ ap (λ (x : ℕ). hashed variant ((x + 63) / 64) (take x h.rest ++ b) h.words) (sym e) in
-      let g1 = e2 ∙ ap (λ (x : List ℕ). hashed variant whole x f) (part b from) in
+      let w : blocks variant (drop from b) ≡ whole = ap (λ (x : ℕ). x / 64) (length-drop from b) ∙ sym ew in
+      let g1 = e2 ∙ ap (λ (x : List ℕ). hashed variant (blocks variant x) x f) (part b from) ∙ ap (λ (x : ℕ). hashed variant x (drop from b) f) w in
       let t1 = e3 ∙ ap (wrote (blank 64) 0) (part b end) in
       let r : length (drop end b) ≤ 64 = few n (length b) from whole end below ef ew ee m (length-drop end b) in
       made g t c (pass_words n h.rest b l below from whole ef ew m f g h.words f1 g1) (pass_rest n h.rest b l below from whole ef ew m t end ee (put_fits (blank 64) (drop end b) t 0 i (omega arith) t1)) ec
@@ -144,38 +146,14 @@ module _ (h : Midstate) (b : List ℕ) (n : ℕ) (l : length h.rest ≡ 64) (e :
       few n m from whole end a ef ew ee k d = omega arith
 
 -- the last blocks: the bytes that wait, the padding and the length
-long_two : (rest : List ℕ) (high low : ℕ) → length rest < 64 → length (last_blocks variant rest high low) ≡ (1 + (length rest + 8) / 64) * 64
-long_two rest high low h = omega (arith, long_last variant rest high low)
-
-pub finish_is : (h : Midstate) (n c high low : ℕ) (t s r : List ℕ)
+pub finish_is : (h : Midstate) (n high low : ℕ) (r : List ℕ)
     → length h.rest ≡ 64 → n ≡ h.count % 64 → high ≡ 8 * h.count / 2 ^ 32 % 2 ^ 32 → low ≡ 8 * h.count % 2 ^ 32
-    → take (length (last_blocks variant (take n h.rest) high low)) t ≡ last_blocks variant (take n h.rest) high low
-    → c ≡ 1 + (n + 8) / 64 → s ≡ hashed variant c t h.words → r ≡ unparsed variant s → r ≡ summed h
+    → r ≡ last_hashed variant (last_blocks variant (take n h.rest) high low) h.words → r ≡ summed h
 unfolding summed
-finish_is h n c high low t s r l e hi lo k ec es er =
+finish_is h n high low r l e hi lo er =
     let i = h.count in
     let p = take n h.rest in
     let lp : length p ≡ n = length-take-le n h.rest (omega arith) in
     let z : zeros variant (length p) ≡ zeros variant i = omega arith in
-    let q : last_blocks variant p high low ≡ p ++ padding variant i = last_is_lem variant i p high low z (ap (λ (x : ℕ). x % 2 ^ 32) hi ∙ mod-mod (8 * i / 2 ^ 32) (2 ^ 32)) (ap (λ (x : ℕ). x % 2 ^ 32) lo ∙ mod-mod (8 * i) (2 ^ 32)) in
-    let m : (1 + (length p + 8) / 64) * 64 ≡ c * 64 = ap (λ (x : ℕ). (1 + (x + 8) / 64) * 64) lp ∙ ap (λ (x : ℕ). x * 64) (sym ec) in
-    er ∙ ap (unparsed variant) es
-    ∙ last_hashed variant i c p h.words t high low (lit< tt) q (long_two p high low (omega arith) ∙ m) k
+    er ∙ closed variant i p h.words high low z (ap (λ (x : ℕ). x % 2 ^ 32) hi ∙ mod-mod (8 * i / 2 ^ 32) (2 ^ 32)) (ap (λ (x : ℕ). x % 2 ^ 32) lo ∙ mod-mod (8 * i) (2 ^ 32))
     ∙ ap (λ (x : ℕ). finished variant i (take x h.rest) h.words) e
-
-pub fill_is : (rest t u w : List ℕ) (high low n i end : ℕ)
-    → length rest ≡ 64 → n < 64 → end ≡ (1 + (n + 8) / 64) * 64
-    → placed i t ≡ wrote (blank 128) 0 (take (n - 0) rest) → u ≡ written (set t n 128) (end - 8) (big_endian 4 high) → w ≡ written u (end - 4) (big_endian 4 low)
-    → take (length (last_blocks variant (take n rest) high low)) w ≡ last_blocks variant (take n rest) high low
-fill_is rest t u w high low n i end l k e et eu ew =
-    let q = take n rest in
-    let lq : length q ≡ n = length-take-le n rest (omega arith) in
-    let z : end ≡ n + 1 + zeros variant (length q) + 2 * 4 = ends n (length q) end k lq e in
-    let ft : t ≡ written (blank 128) 0 q = put_fits (blank 128) q t 0 i (omega arith) (et ∙ ap (λ (x : ℕ). wrote (blank 128) 0 (take x rest)) (sub-zero n)) in
-    laid variant 128 q t u w high low n end (sym lq) z (room_for n end k e) ft eu ew
-  where
-    ends : (n m end : ℕ) → n < 64 → m ≡ n → end ≡ (1 + (n + 8) / 64) * 64 → end ≡ n + 1 + zeros variant m + 2 * 4
-    ends n m end h d e = omega arith
-
-    room_for : (n end : ℕ) → n < 64 → end ≡ (1 + (n + 8) / 64) * 64 → end ≤ 128
-    room_for n end h e = omega arith

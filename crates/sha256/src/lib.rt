@@ -1,23 +1,19 @@
 // SHA-256 (FIPS 180-4) of bytes that come in parts, of any number and however they are cut.
 #![tactic(auto)]
 
-ghost use Rattle.std.specs.Prelude.{◌≡◌, ◌+◌, ◌/◌, ◌%◌, ◌^◌, ◌<◌, ◌≤◌, ◌++◌, length};
-ghost use Rattle.hash.specs.Sha2.{hashed};
+ghost use Rattle.std.specs.Prelude.{◌≡◌, ◌+◌, ◌*◌, ◌/◌, ◌%◌, ◌^◌, ◌<◌, ◌≤◌, ◌++◌, length};
+ghost use Rattle.hash.specs.Sha2.{blocks, hashed};
 ghost use Rattle.sha256.specs.Sha256.{variant, round_words, sha256};
 ghost use Rattle.sha256.specs.Midstate.{pending, start, added, summed};
 
-use block::compress_all;
-use bytes::bytes_of;
-use last::{bits_high, bits_low, fill, last_blocks};
+use hash::block::compress_all;
+use hash::last;
 use places::put;
-use std::num::wrapping_add_u64;
 use table::{INITIAL, ROUND_WORDS};
+use words32::Sha256Words;
 
-mod block;
-mod bytes;
-mod functions;
-mod last;
 mod table;
+mod words32;
 
 // What is kept while bytes come: the hash value after the whole blocks, the bytes after them (count % 64 of rest), and how many came,
 // modulo 2^64.
@@ -50,7 +46,30 @@ fn held(count: u64) -> usize
 fn counted(count: u64, n: usize) -> u64
     ensures { result ≡ (count + n) % 2 ^ 64 }
 {
-    wrapping_add_u64(count, n as u64)
+    count.wrapping_add(n as u64)
+}
+
+// The high word of the length in bits of a message of n bytes.
+fn bits_high(n: u64) -> u32
+    ensures { result ≡ 8 * n / 2 ^ 32 % 2 ^ 32 }
+{
+    (n / 0x2000_0000 % 0x1_0000_0000) as u32
+}
+
+// The low word of that length.
+fn bits_low(n: u64) -> u32
+    ensures { result ≡ 8 * n % 2 ^ 32 }
+{
+    (n % 0x2000_0000 * 8) as u32
+}
+
+// The hash value after the whole blocks of p.
+// The table of round words is lent by the outermost caller, so that it is made once for a message and not for each block.
+fn hash_blocks(words: &[u32; 64], p: &[u8], before: [u32; 8]) -> [u32; 8]
+    requires { words.now ≡ round_words }
+    ensures { result ≡ hashed variant (blocks variant p.now) p.now before }
+{
+    compress_all::<Sha256Words, 64, 32>(words, p, before)
 }
 
 // Bytes that leave the block open.
@@ -83,7 +102,7 @@ fn close(words: &[u32; 64], h: Midstate, bytes: &[u8]) -> [u32; 8]
     }
     let mut block = h.rest;
     put(&mut block, n, bytes);
-    compress_all(words, &block, 1, s)
+    hash_blocks(words, &block, s)
 }
 
 // Bytes that fill a block, or more than one: those after the first are read where they lie.
@@ -96,7 +115,7 @@ fn pass(words: &[u32; 64], h: Midstate, bytes: &[u8]) -> Midstate
     let whole = (n - from) / 64;
     let end = from + whole * 64;
     let first = close(words, h, bytes);
-    let last = compress_all(words, &bytes[from..n], whole, first);
+    let last = hash_blocks(words, &bytes[from..n], first);
     let mut rest = [0u8; 64];
     put(&mut rest, 0, &bytes[end..n]);
     Midstate {
@@ -122,10 +141,13 @@ pub fn finish(h: Midstate) -> [u8; 32]
 {
     let n = held(h.count);
     let rest = h.rest;
-    let s = h.words;
-    let t = fill(rest, n, bits_high(h.count), bits_low(h.count));
-    let last = compress_all(&ROUND_WORDS, &t, last_blocks(n), s);
-    bytes_of(last)
+    last::close::<Sha256Words, 64, 32>(
+        &ROUND_WORDS,
+        h.words,
+        &rest[..n],
+        bits_high(h.count),
+        bits_low(h.count),
+    )
 }
 
 // The hash of a message that is all there.

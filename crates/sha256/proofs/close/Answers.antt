@@ -13,4 +13,4 @@ pub returns : goal.returns
 returns c =
     let long : length c.args.h.rest ≡ 64 = search rules in
     let h = c.args.h in
-    c.compress_all.ensures ∙ close_is h c.args.bytes.now c.held-n.result (long) c.held-n.ensures c.put.new.out _ c.if-n-eq0.false c.requires.1 c.put.ensures
+    c.hash_blocks.ensures ∙ close_is h c.args.bytes.now c.held-n.result (long) c.held-n.ensures c.put.new.out _ c.if-n-eq0.false c.requires.1 c.put.ensures (search rules)

@@ -7,5 +7,5 @@ pub returns : goal.returns
 returns c =
     let long : length c.args.h.rest ≡ 64 = search rules in
     let h = c.args.h in
-    pass_is h c.args.bytes.now c.held.result (long) c.held.ensures _ _ _ c.close-first.result c.compress_all-last.result c.put.new.out _ c.counted.result
-    refl refl refl c.requires.1 c.close-first.ensures c.compress_all-last.ensures c.put.ensures c.counted.ensures
+    pass_is h c.args.bytes.now c.held.result (long) c.held.ensures _ _ _ c.close-first.result c.hash_blocks-last.result c.put.new.out _ c.counted.result
+    refl refl refl c.requires.1 c.close-first.ensures c.hash_blocks-last.ensures c.put.ensures c.counted.ensures
