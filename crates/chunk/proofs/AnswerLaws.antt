@@ -4,7 +4,6 @@ use mathlib.Core.Bool.{Bool, true, false, ◌||◌}
 use mathlib.Core.List.{List}
 use mathlib.Core.Path.{◌≡◌, refl, sym, ap, ◌∙◌}
 use Prim.Native.Nat.{ℕ, zero, suc, ◌+◌, ◌≤◌}
-use native.Mathlib.Omega.{arith}
 use borrow.Author.Tests.{leb-true}
 use lib.Dec.{eqb, leb}
 use Rattle.octets.specs.Choice.{pick}
@@ -13,9 +12,9 @@ use Rattle.stream.proofs.Truth.{left_holds, right_holds}
 use Rattle.stream.specs.Blocks.{is_chunk_line, carries_signature, carries_hash, chunk_size, line_signature, line_hash, same_bool, is_hash_due, line_rules, line_fault}
 use Rattle.stream.specs.Limits.{body_limit}
 use Rattle.stream.specs.Range.{Range, is_within}
+use Rattle.std.specs.Prelude.{Ok}
 use Rattle.chunk.specs.Judging.{zeros, carried_by, good_line, unless_fault, line_judged}
 use Rattle.chunk.specs.declared.judging.Line.{Line}
-use Rattle.chunk.specs.declared.judging.LineAnswer.TheVariants.{Good}
 
 -- a good line, by the size that it announces and the 64 bytes that it carries
 pub record Accepted (N : ℕ) (r : Range) (due full : Bool) (sofar : ℕ) (l : List ℕ) (size : ℕ) (carried : List ℕ) : Type 0 where
@@ -36,42 +35,32 @@ same_bool_lem false true e = sym e
 same_bool_lem false false e = refl
 
 -- a good line is not refused
-answers_good : (n m : ℕ) (l : List ℕ) (size : ℕ) (s : List ℕ) → (unless_fault m l (good_line size s)).answer ≡ Good n → (m ≡ 0) × (n ≡ size)
-answers_good n zero l size s e = (refl, cc)
-answers_good n (suc m) l size s e = let z : ◌≡◌ {A = ℕ} 0 1 = cc in absurd (omega arith)
+answers_good : (m : ℕ) (l : List ℕ) (line good : Line) → unless_fault m l good ≡ Ok line → (m ≡ 0) × (line ≡ good)
+answers_good zero l line good e = (refl, cc)
+answers_good (suc m) l line good e = cc
 
-module _ (N : ℕ) (r : Range) (due full : Bool) (sofar : ℕ) (l : List ℕ) {line : Line} (said : line ≡ line_judged N r due full sofar l) where
-  abbrev fault : ℕ
-  fault = line_fault N r due full sofar l
-
-  said_answer : line.answer ≡ (unless_fault fault l (good_line (chunk_size l) (carried_by l))).answer
+module _ (N : ℕ) (r : Range) (due full : Bool) (sofar : ℕ) (l : List ℕ) (line : Line) (said : line_judged N r due full sofar l ≡ Ok line) where
+  all_kept : (line_fault N r due full sofar l ≡ 0) × (line ≡ good_line (chunk_size l) (carried_by l))
   unfolding line_judged
-  said_answer = ap (λ (x : Line). x.answer) said
+  all_kept = answers_good (line_fault N r due full sofar l) l line _ said
 
-  module _ (n : ℕ) (e : line.answer ≡ Good n) where
-    all_kept : (fault ≡ 0) × (n ≡ chunk_size l)
-    all_kept = answers_good n fault l (chunk_size l) (carried_by l) (sym said_answer ∙ e)
-
-    said_carried : line.carried ≡ carried_by l
-    unfolding line_judged
-    said_carried = ap (λ (x : Line). x.carried) said ∙ rw all_kept.0
-
-    pub line_accepted : Accepted N r due full sofar l n line.carried
-    unfolding line_fault line_rules
-    line_accepted =
-        let (k, size) = all_kept in
-        let (r6, (r8, (h8, (r7, (p7, (r9, rest)))))) = rules_hold (line_rules N r due full sofar l) refl k in
-        let s = same_bool_lem due (carries_signature l) r8 in
-        let t = same_bool_lem (is_hash_due r due) (carries_hash l) h8 in
-        record {
-          kept = k;
-          text = r6;
-          announced = size;
-          most = rw size (leb-true _ _ (left_holds (leb (chunk_size l) N) (full || eqb (chunk_size l) 0) r7));
-          whole = rw size (right_holds (leb (chunk_size l) N) (full || eqb (chunk_size l) 0) r7);
-          body = rw size (leb-true _ _ r9);
-          within = rw size p7;
-          signed = s;
-          hashed = t;
-          carries = said_carried ∙ rw (s, t);
-        }
+  pub line_accepted : Accepted N r due full sofar l line.size line.carried
+  unfolding line_fault line_rules
+  line_accepted =
+      let (k, kept) = all_kept in
+      let size = ap (λ (x : Line). x.size) kept in
+      let (r6, (r8, (h8, (r7, (p7, (r9, rest)))))) = rules_hold (line_rules N r due full sofar l) refl k in
+      let s = same_bool_lem due (carries_signature l) r8 in
+      let t = same_bool_lem (is_hash_due r due) (carries_hash l) h8 in
+      record {
+        kept = k;
+        text = r6;
+        announced = size;
+        most = rw size (leb-true _ _ (left_holds (leb (chunk_size l) N) (full || eqb (chunk_size l) 0) r7));
+        whole = rw size (right_holds (leb (chunk_size l) N) (full || eqb (chunk_size l) 0) r7);
+        body = rw size (leb-true _ _ r9);
+        within = rw size p7;
+        signed = s;
+        hashed = t;
+        carries = ap (λ (x : Line). x.carried) kept ∙ rw (s, t);
+      }

@@ -1,12 +1,11 @@
 -- The text of a chunk line from its parts, as the code comes to them: what stands after the size, the text without CR LF,
 -- the whole line. Assumes nothing.
-use mathlib.Core.Bool.{Bool, true, false, ◌&&◌, ◌||◌, not, false≢true}
+use mathlib.Core.Bool.{Bool, true, false, ◌&&◌, ◌||◌, false≢true}
 use mathlib.Core.List.{List, [], ◌∷◌}
 use mathlib.Core.Path.{◌≡◌, refl, sym, ap, ◌∙◌}
-use Prim.Native.Nat.{ℕ, suc, ◌+◌, ◌-◌, ◌≤◌, ◌<◌}
-use native.Mathlib.Nat.{sub-zero}
+use Prim.Native.Nat.{ℕ, suc, ◌+◌, ◌-◌, ◌≤◌}
 use native.Mathlib.Omega.{arith}
-use borrow.Author.Tests.{le-leb, lt-leb, leb-true, leb-false, eqb-true}
+use borrow.Author.Tests.{le-leb, ne_eqb, leb-true, leb-false, eqb-true}
 use lib.Dec.{eqb, leb, lit≤}
 use lib.ListN.{length, take, drop, length-drop}
 use lib.Seq.{take_all}
@@ -15,10 +14,12 @@ use Rattle.base64_text.specs.Decoding.{answered, decoded}
 use Rattle.base64_text.proofs.Laws.{answer_is, buffer_read}
 use Rattle.number.proofs.Forms.{hex_found, hex_missed}
 use Rattle.number.specs.Reading.{hex_read}
-use Rattle.std.specs.Prelude.{Ok, Err}
+use Rattle.std.specs.Prelude.{Option, Some, None, Result, Ok, Err, option_map, option_and_then}
+use Rattle.std.specs.Bool.{then_some}
+use Rattle.std.specs.Result.{result_ok}
 use Rattle.octets.specs.Choice.{pick}
 use Rattle.stream.specs.Blocks.{ouisig, ouihash, size_text, extension, is_extension, is_chunk_line, carries_signature, carries_hash, chunk_size, line_signature, line_hash}
-use Rattle.stream.specs.Bytes.{same, is_hex}
+use Rattle.stream.specs.Bytes.{is_hex, same}
 use Rattle.stream.specs.Limits.{size_digits}
 use Rattle.stream.specs.Lines.{crlf, ends_with}
 use Rattle.stream.specs.Numbers.{is_hex_number, hex_value}
@@ -29,47 +30,25 @@ use Rattle.text.proofs.SameLaws.{starts_within}
 use Rattle.classes.specs.Class.{class_of}
 use Rattle.classes.specs.declared.Class.TheVariants.{Hex}
 use Rattle.chunk.specs.Judging.{zeros}
-use Rattle.chunk.specs.Parts.{good, wrong, carried_read, extension_read, text_read, line_read}
+use Rattle.chunk.specs.Parts.{text_of, bytes_read, extension_read, text_read, line_read}
+use Rattle.chunk.specs.declared.reading.Carried.TheVariants.{Nothing, Signature, Hash}
 use Rattle.chunk.specs.declared.reading.ChunkText.{ChunkText}
 
 -- a part of a slice up to its end
 pub rest-is : (l : List ℕ) (i : ℕ) → take (length l - i) (drop i l) ≡ drop i l
 rest-is l i = take_all (length l - i) (drop i l) (omega (arith, length-drop i l))
 
--- ---- a signature or a hash
+-- ---- a signature or a hash: `said` is what decoding it has answered, and left in the buffer
 
--- `said` is what decoding it has answered, and left in the buffer
-module _ (size : ℕ) (signed : Bool) (v : List ℕ) {ok : Bool} {after : List ℕ} (said : answered ok after ≡ decoded 64 v zeros) where
-  pub carried_unread : ok ≡ false → carried_read size signed v ≡ wrong
-  unfolding carried_read
-  carried_unread b = rw (sym (answer_is 64 v zeros said) ∙ b)
-
-  pub carried_read_lem : ok ≡ true → carried_read size signed v ≡ good size signed (not signed) after
-  unfolding carried_read
-  carried_read_lem b =
-      let t = sym (answer_is 64 v zeros said) ∙ b in
-      rw (t, buffer_read 64 v zeros said t)
+pub bytes_read_lem : (v : List ℕ) {ok : Bool} {after : List ℕ} → answered ok after ≡ decoded 64 v zeros → then_some ok after ≡ bytes_read v
+unfolding bytes_read
+bytes_read_lem v {ok = ok} {after = after} said = by (is_base64 64 v) refl
+  where
+    by : (t : Bool) → is_base64 64 v ≡ t → then_some ok after ≡ pick (is_base64 64 v) (Some (base64_bytes 64 v)) None
+    by true e = rw (answer_is 64 v zeros said, e, buffer_read 64 v zeros said e)
+    by false e = rw (answer_is 64 v zeros said, e)
 
 -- ---- what stands after the size
-
-module _ (size : ℕ) (e : List ℕ) where
-  pub extension_none : length e < 1 → extension_read size e ≡ good size false false zeros
-  unfolding extension_read
-  extension_none h = rw (lt-leb 1 (length e) h)
-
-  module _ (h : 1 ≤ length e) where
-    pub extension_signed : starts_with ouisig e ≡ true → extension_read size e ≡ carried_read size true (take (length e - 8) (drop 8 e))
-    unfolding extension_read
-    extension_signed s = rw (le-leb 1 (length e) h, s, rest-is e 8)
-
-    pub extension_hashed : starts_with ouisig e ≡ false → starts_with ouihash e ≡ true
-        → extension_read size e ≡ carried_read size false (take (length e - 9) (drop 9 e))
-    unfolding extension_read
-    extension_hashed s t = rw (le-leb 1 (length e) h, s, t, rest-is e 9)
-
-    pub extension_other : starts_with ouisig e ≡ false → starts_with ouihash e ≡ false → extension_read size e ≡ wrong
-    unfolding extension_read
-    extension_other s t = rw (le-leb 1 (length e) h, s, t)
 
 pub signature_room : (e : List ℕ) → starts_with ouisig e ≡ true → 8 ≤ length e
 signature_room e s = starts_within ouisig e 0 s (omega arith)
@@ -86,7 +65,7 @@ fifth true true false d x p y q h e = refl
 fifth true false c d x p y q h e = refl
 fifth false b c d x p y q h e = refl
 
-one_name : (e : List ℕ) → starts_with ouisig e ≡ true → starts_with ouihash e ≡ false
+pub one_name : (e : List ℕ) → starts_with ouisig e ≡ true → starts_with ouihash e ≡ false
 unfolding starts_with same
 one_name [] s = refl
 one_name (a ∷ []) s = absurd (omega (arith, signature_room (a ∷ []) s))
@@ -98,17 +77,19 @@ one_name (a ∷ b ∷ c ∷ d ∷ x ∷ l) s = fifth (eqb 59 a) (eqb 111 b) (eqb
 -- a line's extension, by its two rules of text
 extension_is : (n : ℕ) (e : List ℕ)
     → pick (is_extension e)
-    (good n (starts_with ouisig e) (starts_with ouihash e) (pick (starts_with ouisig e) (base64_bytes 64 (drop 8 e)) (pick (starts_with ouihash e) (base64_bytes 64 (drop 9 e)) zeros)))
-    wrong
-    ≡ extension_read n e
-unfolding is_extension extension_read carried_read starts_with same
+    (Some (text_of n (pick (starts_with ouisig e) (Signature (base64_bytes 64 (drop 8 e))) (pick (starts_with ouihash e) (Hash (base64_bytes 64 (drop 9 e))) Nothing))))
+    None
+    ≡ option_map (text_of n) (extension_read e)
+unfolding is_extension extension_read bytes_read starts_with same
 extension_is n [] = refl
 extension_is n (b ∷ l) =
-    rw (le-leb 1 (suc (length l)) (omega arith)) (by (starts_with ouisig (b ∷ l)) (starts_with ouihash (b ∷ l)) refl refl (is_base64 64 (drop 8 (b ∷ l))) (is_base64 64 (drop 9 (b ∷ l))))
+    rw (le-leb 1 (suc (length l)) (omega arith), ne_eqb (suc (length l)) 0 (λ e. omega arith))
+    (by (starts_with ouisig (b ∷ l)) (starts_with ouihash (b ∷ l)) refl refl (is_base64 64 (drop 8 (b ∷ l))) (is_base64 64 (drop 9 (b ∷ l))))
   where
     by : (x y : Bool) → starts_with ouisig (b ∷ l) ≡ x → starts_with ouihash (b ∷ l) ≡ y → (p q : Bool)
-        → pick ((x && p) || (y && q)) (good n x y (pick x (base64_bytes 64 (drop 8 (b ∷ l))) (pick y (base64_bytes 64 (drop 9 (b ∷ l))) zeros))) wrong
-        ≡ pick x (pick p (good n true false (base64_bytes 64 (drop 8 (b ∷ l)))) wrong) (pick y (pick q (good n false true (base64_bytes 64 (drop 9 (b ∷ l)))) wrong) wrong)
+        → pick ((x && p) || (y && q)) (Some (text_of n (pick x (Signature (base64_bytes 64 (drop 8 (b ∷ l)))) (pick y (Hash (base64_bytes 64 (drop 9 (b ∷ l)))) Nothing)))) None
+        ≡ option_map (text_of n)
+        (pick x (option_map Signature (pick p (Some (base64_bytes 64 (drop 8 (b ∷ l)))) None)) (pick y (option_map Hash (pick q (Some (base64_bytes 64 (drop 9 (b ∷ l)))) None)) None))
     by true true e f p q = absurd (false≢true (sym (one_name (b ∷ l) e) ∙ f))
     by true false e f true q = refl
     by true false e f false q = refl
@@ -126,18 +107,16 @@ module _ (t : List ℕ) (end : ℕ) (f : end ≡ 0 + length (run (class_of Hex) 
   pub digits_within : end ≤ length t
   digits_within = omega (arith, digits_end, run_le is_hex t)
 
-  digits_are : take (end - 0) (drop 0 t) ≡ run is_hex t
-  digits_are = rw (sub-zero, digits_end) (sym (run_take is_hex t))
+  digits_are : take end t ≡ run is_hex t
+  digits_are = rw digits_end (sym (run_take is_hex t))
 
-  pub text_sized : (n : ℕ) → hex_read 8 (take (end - 0) (drop 0 t)) ≡ Ok n → text_read t ≡ extension_read n (take (length t - end) (drop end t))
+  pub text_is : {r : Result ℕ ℕ} → r ≡ hex_read 8 (take end t)
+      → text_read t ≡ option_and_then (λ n. option_map (text_of n) (extension_read (take (length t - end) (drop end t)))) (result_ok r)
   unfolding text_read
-  text_sized n e =
-      let w = hex_found 8 (run is_hex t) (lit≤ tt) n (rw digits_are at e) in
+  text_is {r = Ok n} e =
+      let w = hex_found 8 (run is_hex t) (lit≤ tt) n (rw digits_are at (sym e)) in
       rw (w.0, w.1, rest-is t end, digits_end, past_drop)
-
-  pub text_unsized : (p : ℕ) → hex_read 8 (take (end - 0) (drop 0 t)) ≡ Err p → text_read t ≡ wrong
-  unfolding text_read
-  text_unsized p e = rw (hex_missed 8 (run is_hex t) (lit≤ tt) p (rw digits_are at e))
+  text_is {r = Err p} e = rw (hex_missed 8 (run is_hex t) (lit≤ tt) p (rw digits_are at (sym e)))
 
 -- ---- the whole line
 
@@ -146,10 +125,6 @@ pick_both true b x y = refl
 pick_both false b x y = refl
 
 module _ (l : List ℕ) where
-  pub line_unended : ends_with crlf l ≡ false → line_read l ≡ wrong
-  unfolding line_read is_chunk_line
-  line_unended e = rw e
-
   pub line_room : ends_with crlf l ≡ true → 2 ≤ length l
   line_room e = by (leb 2 (length l)) refl
     where
@@ -157,9 +132,9 @@ module _ (l : List ℕ) where
       by true h = leb-true 2 (length l) h
       by false h = absurd (false≢true (sym (ends_short crlf l (leb-false 2 (length l) h)) ∙ e))
 
-  pub line_ended : ends_with crlf l ≡ true → line_read l ≡ text_read (take (length l - 2 - 0) (drop 0 l))
+  pub line_ended : ends_with crlf l ≡ true → line_read l ≡ text_read (take (length l - 2) l)
   unfolding line_read is_chunk_line chunk_size carries_signature carries_hash line_signature line_hash text_read
   line_ended e =
-      rw (e, sub-zero)
+      rw e
       (pick_both (is_hex_number size_digits (size_text l)) (is_extension (extension l)) _ _
-      ∙ ap (λ (t : ChunkText). pick (is_hex_number size_digits (size_text l)) t wrong) (extension_is (hex_value (size_text l)) (extension l)))
+      ∙ ap (λ (t : Option ChunkText). pick (is_hex_number size_digits (size_text l)) t None) (extension_is (hex_value (size_text l)) (extension l)))

@@ -1,105 +1,165 @@
 -- The rules of a chunk line, one after the other, and the line by the first that is broken. Assumes nothing.
-use mathlib.Core.Bool.{Bool, true, false, ◌&&◌, ◌||◌, not, beq}
+use mathlib.Core.Bool.{Bool, true, false, ◌&&◌, ◌||◌, not}
 use mathlib.Core.List.{List}
 use mathlib.Core.Path.{◌≡◌, refl, sym, ap, ◌∙◌}
 use Prim.Native.Nat.{ℕ, zero, suc, ◌+◌, ◌≤◌, ◌<◌}
 use borrow.Author.Tests.{le-leb, lt-leb}
 use lib.Dec.{eqb, leb}
+use Rattle.std.specs.Prelude.{Some, None, Ok}
 use Rattle.octets.specs.Choice.{pick}
-use Rattle.stream.specs.Blocks.{is_chunk_line, carries_signature, carries_hash, chunk_size, same_bool, is_hash_due, line_rules, line_fault}
+use Rattle.stream.specs.Blocks.{extension, carries_signature, carries_hash, is_chunk_line, chunk_size, same_bool, is_hash_due, line_rules, line_fault}
 use Rattle.stream.specs.Limits.{body_limit}
 use Rattle.stream.specs.Range.{Range, first_byte, is_within}
 use Rattle.stream.specs.Rule.{first_broken}
 use Rattle.chunk.specs.Judging.{refused_line, good_line, carried_by, unless_fault, line_judged}
-use Rattle.chunk.specs.Parts.{good, wrong, line_read, is_due, size_rules}
-use Rattle.chunk.specs.declared.judging.Line.{Line}
+use Rattle.chunk.specs.Parts.{text_of, carried_of, line_read, is_signature, is_hash, is_due, size_rules, number_of, bytes_in}
+use Rattle.chunk.specs.declared.reading.Carried.TheVariants.{Nothing, Signature, Hash}
 use Rattle.chunk.specs.declared.reading.ChunkText.{ChunkText}
-use Rattle.chunk.proofs.ReadLaws.{pick_both}
+use Rattle.chunk.proofs.ReadLaws.{one_name, pick_both}
 
 -- ---- the rules 8, 7 and 9
 
--- the comparison of two bools, in the code's words
-same_beq : (a b : Bool) → beq a b ≡ same_bool a b
-same_beq true true = refl
-same_beq true false = refl
-same_beq false true = refl
-same_beq false false = refl
+-- what is due, in the code's words
+module _ (r : Range) (due : Bool) {a : ℕ} (e : a ≡ first_byte r) where
+  pub nothing_due : not due && not (leb 1 a && not due) ≡ is_due r due Nothing
+  unfolding is_due is_hash_due
+  nothing_due = rw e (by due (leb 1 (first_byte r)))
+    where
+      by : (t u : Bool) → not t && not (u && not t) ≡ same_bool t false && same_bool (u && not t) false
+      by true true = refl
+      by true false = refl
+      by false true = refl
+      by false false = refl
 
-pub due_is : (r : Range) (due signed hashed : Bool) (a : ℕ) → a ≡ first_byte r
-    → beq due signed && beq (leb 1 a && not due) hashed ≡ is_due r due signed hashed
-unfolding is_due is_hash_due
-due_is r due signed hashed a e = rw (e, same_beq due signed, same_beq (leb 1 (first_byte r) && not due) hashed)
+  pub signature_due : (s : List ℕ) → due ≡ is_due r due (Signature s)
+  unfolding is_due is_hash_due
+  signature_due s = by due (leb 1 (first_byte r))
+    where
+      by : (t u : Bool) → t ≡ same_bool t true && same_bool (u && not t) false
+      by true true = refl
+      by true false = refl
+      by false u = refl
+
+  pub hash_due : (s : List ℕ) → leb 1 a && not due ≡ is_due r due (Hash s)
+  unfolding is_due is_hash_due
+  hash_due s = rw e (by due (leb 1 (first_byte r)))
+    where
+      by : (t u : Bool) → u && not t ≡ same_bool t false && same_bool (u && not t) true
+      by true true = refl
+      by true false = refl
+      by false true = refl
+      by false false = refl
 
 module _ (N : ℕ) (r : Range) (full : Bool) (sofar : ℕ) (size : ℕ) where
   abbrev broken : ℕ
   broken = first_broken (size_rules N r full sofar size)
 
-  abbrev sized : Bool
-  sized = leb size N && (full || eqb size 0)
-
-  pub breaks_7 : sized ≡ false → broken ≡ 7
+  pub breaks_7 : not (leb size N && (full || eqb size 0)) || not (is_within r sofar size) ≡ true → number_of broken ≡ Some 7
   unfolding first_broken size_rules
-  breaks_7 b = rw b
+  breaks_7 h = by (leb size N && (full || eqb size 0)) (is_within r sofar size) _ h
+    where
+      by : (t u : Bool) (n : ℕ) → not t || not u ≡ true → number_of (pick t (pick u n 7) 7) ≡ Some 7
+      by false u n h = refl
+      by true false n h = refl
+      by true true n h = cc
 
-  module _ (b : sized ≡ true) where
-    pub breaks_range : is_within r sofar size ≡ false → broken ≡ 7
+  module _ (h : not (leb size N && (full || eqb size 0)) || not (is_within r sofar size) ≡ false) where
+    keeps_7 : broken ≡ pick (leb (sofar + size) body_limit) 0 9
     unfolding first_broken size_rules
-    breaks_range w = rw (b, w)
+    keeps_7 = by (leb size N && (full || eqb size 0)) (is_within r sofar size) _ h
+      where
+        by : (t u : Bool) (n : ℕ) → not t || not u ≡ false → pick t (pick u n 7) 7 ≡ n
+        by true true n h = refl
+        by true false n h = cc
+        by false u n h = cc
 
-    module _ (w : is_within r sofar size ≡ true) where
-      pub breaks_9 : body_limit < sofar + size → broken ≡ 9
-      unfolding first_broken size_rules
-      breaks_9 h = rw (b, w, lt-leb (sofar + size) body_limit h)
+    pub breaks_9 : body_limit < sofar + size → number_of broken ≡ Some 9
+    breaks_9 l = rw (keeps_7, lt-leb (sofar + size) body_limit l)
 
-      pub breaks_none : sofar + size ≤ body_limit → broken ≡ 0
-      unfolding first_broken size_rules
-      breaks_none h = rw (b, w, le-leb (sofar + size) body_limit h)
+    pub breaks_none : sofar + size ≤ body_limit → number_of broken ≡ None
+    breaks_none l = rw (keeps_7, le-leb (sofar + size) body_limit l)
 
 -- ---- the line
 
-unless_broken_lem : (n : ℕ) (l : List ℕ) (line : Line) → (n ≡ 0 → ⊥) → unless_fault n l line ≡ refused_line n l
-unless_broken_lem zero l line h = absurd (h refl)
-unless_broken_lem (suc n) l line h = refl
+module _ (l : List ℕ) where
+  signed_is : is_signature (carried_of l) ≡ carries_signature l
+  signed_is = by (carries_signature l) (carries_hash l) _ _
+    where
+      by : (t u : Bool) (s h : List ℕ) → is_signature (pick t (Signature s) (pick u (Hash h) Nothing)) ≡ t
+      by true u s h = refl
+      by false true s h = refl
+      by false false s h = refl
+
+  hashed_is : is_hash (carried_of l) ≡ carries_hash l
+  unfolding carries_signature carries_hash
+  hashed_is = by (carries_signature l) (carries_hash l) _ _ (λ e. one_name (extension l) e)
+    where
+      by : (t u : Bool) (s h : List ℕ) → (t ≡ true → u ≡ false) → is_hash (pick t (Signature s) (pick u (Hash h) Nothing)) ≡ u
+      by true u s h f = sym (f refl)
+      by false true s h f = refl
+      by false false s h f = refl
+
+  bytes_are : bytes_in (carried_of l) ≡ carried_by l
+  bytes_are = by (carries_signature l) (carries_hash l) _ _
+    where
+      by : (t u : Bool) (s h : List ℕ) → bytes_in (pick t (Signature s) (pick u (Hash h) Nothing)) ≡ pick t s (pick u h (bytes_in Nothing))
+      by true u s h = refl
+      by false true s h = refl
+      by false false s h = refl
+
+  read_is : {text : ChunkText} → Some text ≡ line_read l → (is_chunk_line l ≡ true) × (text ≡ text_of (chunk_size l) (carried_of l))
+  unfolding line_read
+  read_is e = by (is_chunk_line l) e
+    where
+      by : (t : Bool) {x y : ChunkText} → Some x ≡ pick t (Some y) None → (t ≡ true) × (x ≡ y)
+      by true e = (refl, cc)
+      by false e = cc
+
+  unread_is : line_read l ≡ None → is_chunk_line l ≡ false
+  unfolding line_read
+  unread_is e = by (is_chunk_line l) _ e
+    where
+      by : (t : Bool) (y : ChunkText) → pick t (Some y) None ≡ None → t ≡ false
+      by true y e = cc
+      by false y e = refl
 
 module _ (N : ℕ) (r : Range) (due full : Bool) (sofar : ℕ) (l : List ℕ) where
   fault_is : line_fault N r due full sofar l
-      ≡ pick (is_chunk_line l) (pick (is_due r due (carries_signature l) (carries_hash l)) (first_broken (size_rules N r full sofar (chunk_size l))) 8) 6
+      ≡ pick (is_chunk_line l) (pick (is_due r due (carried_of l)) (first_broken (size_rules N r full sofar (chunk_size l))) 8) 6
   unfolding line_fault line_rules first_broken size_rules is_due
-  fault_is = ap (λ (n : ℕ). pick (is_chunk_line l) n 6) (sym (pick_both (same_bool due (carries_signature l)) (same_bool (is_hash_due r due) (carries_hash l)) _ _))
+  fault_is =
+      rw (signed_is l, hashed_is l)
+      (ap (λ (n : ℕ). pick (is_chunk_line l) n 6) (sym (pick_both (same_bool due (carries_signature l)) (same_bool (is_hash_due r due) (carries_hash l)) _ _)))
 
-  module _ (text : ChunkText) (e : text ≡ line_read l) where
-    text_is : text.good ≡ is_chunk_line l
-    unfolding line_read
-    text_is = ap (λ (t : ChunkText). t.good) e ∙ by (is_chunk_line l)
-      where
-        by : (t : Bool) → (pick t (good (chunk_size l) (carries_signature l) (carries_hash l) (carried_by l)) wrong).good ≡ t
-        by true = refl
-        by false = refl
+  pub judged_unread : line_read l ≡ None → line_judged N r due full sofar l ≡ refused_line 6 l
+  unfolding line_judged
+  judged_unread e = rw (fault_is, unread_is l e)
 
-    text_parts : text.good ≡ true → text ≡ good (chunk_size l) (carries_signature l) (carries_hash l) (carried_by l)
-    unfolding line_read
-    text_parts g = e ∙ rw (sym text_is ∙ g)
+  module _ {text : ChunkText} (e : Some text ≡ line_read l) where
+    text_is : text ≡ text_of (chunk_size l) (carried_of l)
+    text_is = (read_is l e).1
 
-    pub judged_unread : text.good ≡ false → line_judged N r due full sofar l ≡ refused_line 6 l
+    pub judged_undue : is_due r due text.carried ≡ false → line_judged N r due full sofar l ≡ refused_line 8 l
     unfolding line_judged
-    judged_unread g = rw (fault_is, sym text_is ∙ g)
+    judged_undue d = rw (fault_is, (read_is l e).0, rw text_is at d)
 
-    module _ (g : text.good ≡ true) {ok : Bool} (d : ok ≡ is_due r due text.signed text.hashed) where
-      due_so : is_due r due (carries_signature l) (carries_hash l) ≡ ok
-      due_so = sym (d ∙ rw (text_parts g))
+    module _ (d : is_due r due text.carried ≡ true) where
+      fault_rules : line_fault N r due full sofar l ≡ first_broken (size_rules N r full sofar text.size)
+      fault_rules = fault_is ∙ rw ((read_is l e).0, rw text_is at d, text_is)
 
-      pub judged_undue : ok ≡ false → line_judged N r due full sofar l ≡ refused_line 8 l
+      pub judged_broken : (n : ℕ) → number_of (first_broken (size_rules N r full sofar text.size)) ≡ Some n → line_judged N r due full sofar l ≡ refused_line n l
       unfolding line_judged
-      judged_undue f = rw (fault_is, sym text_is ∙ g, due_so ∙ f)
+      judged_broken n b = rw fault_rules (by (first_broken (size_rules N r full sofar text.size)) b)
+        where
+          by : (m : ℕ) → number_of m ≡ Some n → unless_fault m l (good_line (chunk_size l) (carried_by l)) ≡ refused_line n l
+          by zero b = cc
+          by (suc m) b = cc
 
-      module _ (f : ok ≡ true) (n : ℕ) (b : n ≡ first_broken (size_rules N r full sofar text.size)) where
-        fault_rules : line_fault N r due full sofar l ≡ n
-        fault_rules = fault_is ∙ rw (sym text_is ∙ g, due_so ∙ f, b, text_parts g)
-
-        pub judged_broken : (n ≡ 0 → ⊥) → line_judged N r due full sofar l ≡ refused_line n l
-        unfolding line_judged
-        judged_broken h = rw fault_rules (unless_broken_lem n l _ h)
-
-        pub judged_good : n ≡ 0 → line_judged N r due full sofar l ≡ good_line text.size text.carried
-        unfolding line_judged
-        judged_good h = rw (fault_rules, h, text_parts g)
+      pub judged_good : number_of (first_broken (size_rules N r full sofar text.size)) ≡ None
+          → line_judged N r due full sofar l ≡ Ok (good_line text.size (bytes_in text.carried))
+      unfolding line_judged
+      judged_good b = rw fault_rules (by (first_broken (size_rules N r full sofar text.size)) b)
+        where
+          by : (m : ℕ) → number_of m ≡ None → unless_fault m l (good_line (chunk_size l) (carried_by l)) ≡ Ok (good_line text.size (bytes_in text.carried))
+          by zero b = rw (text_is, bytes_are l)
+          by (suc m) b = cc

@@ -1,90 +1,91 @@
 // A chunk line against its rules, in their order: the text, the signature and the hash, the block's size, the answer's range, the body's size.
 ghost use Rattle.std.specs.Prelude.{◌≡◌};
+ghost use Rattle.refusals.specs.Refusals.{refusal_of};
+ghost use Rattle.stream.specs.Places.{line_place};
 ghost use Rattle.stream.specs.Rule.{first_broken};
 ghost use Rattle.ranges.specs.Extent.{range_in};
-ghost use Rattle.chunk.specs.Judging.{refused_line, line_judged};
-ghost use Rattle.chunk.specs.Parts.{is_due, size_rules};
+ghost use Rattle.chunk.specs.Judging.{line_judged};
+ghost use Rattle.chunk.specs.Parts.{bytes_in, is_due, number_of, size_rules};
 
-use crate::reading::read;
+use crate::reading::{Carried, read};
 use limits::BODY_LIMIT;
 use ranges::Extent;
 use refusals::Refusal;
 
-#[derive(Clone, Copy)]
-pub enum LineAnswer {
-    Refused(Refusal),
-    // announces so many bytes
-    Good { size: u64 },
-}
-
-// The answer, and the 64 bytes that a good line carries, a signature or a hash: zeros where it carries neither.
+// A good line: it announces so many bytes. Of the 64 bytes that it carries, a signature or a hash, zeros stand where it carries neither.
 #[derive(Clone, Copy)]
 pub struct Line {
-    pub answer: LineAnswer,
+    pub size: u64,
     pub carried: [u8; 64],
 }
 
 // The place is that of the line's text.
-fn refused(line: &[u8], number: u8) -> Line
-    ensures { result ≡ refused_line number line.now }
+fn refused(line: &[u8], number: u8) -> Refusal
+    ensures { result ≡ refusal_of number (line_place line.now) }
 {
-    let why = refusals::of_section(number, scanning::line_place(line));
-    Line {
-        answer: LineAnswer::Refused(why),
-        carried: [0u8; 64],
-    }
+    refusals::of_section(number, scanning::line_place(line))
 }
 
-// Whether a line that carries a signature or not, and a hash or not, carries just what is due: a hash on the first line of a part that does not
-// begin with the body.
-fn is_due(extent: Extent, due: bool, signed: bool, hashed: bool) -> bool
-    ensures { result ≡ is_due (range_in extent) due signed hashed }
+// Whether a line carries just what is due: a signature, or a hash on the first line of a part that does not begin with the body.
+fn is_due(extent: Extent, due: bool, carried: Carried) -> bool
+    ensures { result ≡ is_due (range_in extent) due carried }
 {
     let first = ranges::first_byte(extent);
     let hash_due = (1 <= first.0) & !due;
-    (due == signed) & (hash_due == hashed)
+    match carried {
+        Carried::Nothing => !due & !hash_due,
+        Carried::Signature(_) => due,
+        Carried::Hash(_) => hash_due,
+    }
 }
 
-// The first broken rule about the size, for a line that announces `chunk` bytes; 0 where all hold.
-// The sum of the body and the chunk is not made, so that it cannot wrap.
-fn broken(chunk: u64, size: u64, extent: Extent, full: bool, so_far: u64) -> u8
-    ensures { result ≡ first_broken (size_rules size (range_in extent) full so_far chunk) }
+// The number of the first broken rule about the size, for a line that announces `chunk` bytes. No body comes near the largest number.
+fn broken(chunk: u64, size: u64, extent: Extent, full: bool, so_far: u64) -> Option<u8>
+    ensures { result ≡ number_of (first_broken (size_rules size (range_in extent) full so_far chunk)) }
 {
-    if !((chunk <= size) & (full | (chunk == 0))) {
-        return 7;
+    let sized = (chunk <= size) & (full | (chunk == 0));
+    if !sized | !ranges::is_within(extent, so_far, chunk) {
+        return Some(7);
     }
-    if !ranges::is_within(extent, so_far, chunk) {
-        return 7;
+    let body = so_far.saturating_add(chunk);
+    if BODY_LIMIT < body {
+        return Some(9);
     }
-    if BODY_LIMIT < so_far {
-        return 9;
+    None
+}
+
+fn bytes_of(carried: Carried) -> [u8; 64]
+    ensures { result ≡ bytes_in carried }
+{
+    match carried {
+        Carried::Nothing => [0; 64],
+        Carried::Signature(bytes) | Carried::Hash(bytes) => bytes,
     }
-    if BODY_LIMIT - so_far < chunk {
-        return 9;
-    }
-    0
 }
 
 // Judges a whole line: blocks have `size` bytes, the answer carries those of the extent, a signature is due or not, the block before is full or
 // not, and the body has `so_far` bytes.
-pub fn judge(line: &[u8], size: usize, extent: Extent, due: bool, full: bool, so_far: u64) -> Line
+pub fn judge(
+    line: &[u8],
+    size: usize,
+    extent: Extent,
+    due: bool,
+    full: bool,
+    so_far: u64,
+) -> Result<Line, Refusal>
     ensures { result ≡ line_judged size (range_in extent) due full so_far line.now }
 {
-    let text = read(line);
-    if !text.good {
-        return refused(line, 6);
+    let Some(text) = read(line) else {
+        return Err(refused(line, 6));
+    };
+    if !is_due(extent, due, text.carried) {
+        return Err(refused(line, 8));
     }
-    if !is_due(extent, due, text.signed, text.hashed) {
-        return refused(line, 8);
+    if let Some(number) = broken(text.size, size as u64, extent, full, so_far) {
+        return Err(refused(line, number));
     }
-    let chunk = text.size;
-    let fault = broken(chunk, size as u64, extent, full, so_far);
-    if fault != 0 {
-        return refused(line, fault);
-    }
-    let carried = text.carried;
-    Line {
-        answer: LineAnswer::Good { size: chunk },
-        carried,
-    }
+    Ok(Line {
+        size: text.size,
+        carried: bytes_of(text.carried),
+    })
 }

@@ -4,4 +4,4 @@
 mod judging; // a chunk line against the rules
 mod reading; // the text of a chunk line
 
-pub use judging::{Line, LineAnswer, judge};
+pub use judging::{Line, judge};

@@ -1,7 +1,6 @@
--- The hex digits in front, as a number or not, decide.
-use mathlib.Core.Path.{sym, ◌∙◌}
+-- The hex digits in front, as a number or not, decide. Assumes nothing.
 use borrow.Author.Rules.{rules}
-use Rattle.chunk.proofs.ReadLaws.{digits_within, text_sized, text_unsized}
+use Rattle.chunk.proofs.ReadLaws.{digits_within, text_is}
 use Rattle.chunk.proofs.reading.read_text.Goals as goal
 
 pub slice_bounds-hex-end : goal.slice_bounds-hex-end
@@ -11,12 +10,15 @@ pub slice_bounds-read_extension-count : goal.slice_bounds-read_extension-count
 slice_bounds-read_extension-count c = digits_within _ _ c.run_end-end.ensures
 
 pub slice_bounds-read_extension-start : goal.slice_bounds-read_extension-start
-slice_bounds-read_extension-start c =
-    let h = digits_within _ _ c.run_end-end.ensures in
-    search rules
+slice_bounds-read_extension-start c = let h = digits_within _ _ c.run_end-end.ensures in search rules
 
-pub returns-in-Ok : goal.returns-in-Ok
-returns-in-Ok c = c.read_extension.ensures ∙ sym (text_sized _ _ c.run_end-end.ensures _ (sym c.hex.ensures.answers ∙ c.in-Ok.is))
+pub returns-in_err-size : goal.returns-in_err-size
+returns-in_err-size c = rw (c.from_residual.ensures, text_is _ _ c.run_end-end.ensures c.hex.ensures.answers, ← c.ok.ensures.value, c.in_err-size.was)
 
-pub returns-in-Err : goal.returns-in-Err
-returns-in-Err c = c.wrong.ensures ∙ sym (text_unsized _ _ c.run_end-end.ensures _ (sym c.hex.ensures.answers ∙ c.in-Err.is))
+pub returns-in_err-carried : goal.returns-in_err-carried
+returns-in_err-carried c =
+    rw (c.from_residual-in_err-carried.ensures, text_is _ _ c.run_end-end.ensures c.hex.ensures.answers, ← c.ok.ensures.value, c.in_ok-size.was, ← c.read_extension.ensures, c.in_err-carried.was)
+
+pub returns : goal.returns
+returns c =
+    rw (text_is _ _ c.run_end-end.ensures c.hex.ensures.answers, ← c.ok.ensures.value, c.in_ok-size.was, ← c.read_extension.ensures, c.in_ok-carried.was)
