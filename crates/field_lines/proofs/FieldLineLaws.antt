@@ -2,7 +2,6 @@
 use mathlib.Core.Path.{◌≡◌, refl, sym, ap, ◌∙◌}
 use mathlib.Core.Bool.{Bool, true, false, ◌&&◌}
 use mathlib.Core.List.{List, [], ◌∷◌}
-use mathlib.Core.Option.{some}
 use Prim.Native.Nat.{ℕ, ◌+◌, ◌-◌, ◌≤◌, ◌<◌}
 use native.Mathlib.Nat.{sub-zero}
 use native.Mathlib.Omega.{arith}
@@ -21,10 +20,10 @@ use Rattle.classes.proofs.SpanLaws.{span_order, span_within, span_trims}
 use Rattle.classes.specs.Span.{span_of}
 use Rattle.places.specs.declared.Span.{Span}
 use Rattle.places.specs.Place.{part_of}
-use Rattle.field_lines.specs.Entries.{no_entry, entry_field}
-use Rattle.field_lines.specs.Reading.{answer, no_line, ReadsField}
-use Rattle.field_lines.specs.declared.line.FieldLine.{FieldLine}
-use Rattle.field_lines.proofs.AnswerLaws.{both_bad}
+use Rattle.std.specs.Prelude.{None, Some}
+use Rattle.field_lines.specs.Entries.{entry_field}
+use Rattle.field_lines.specs.Reading.{answer, ReadsField}
+use Rattle.field_lines.specs.declared.entry.Entry.{Entry}
 use Rattle.places.proofs.PlaceLaws.{part_shift}
 
 abbrev after_name : List Part
@@ -82,11 +81,9 @@ module _ (s : List ℕ) (n : ℕ) (h : n ≡ 0 + length (run is_tchar s)) where
 
 -- ---- what the code answers
 
-pub reads_none : (t line : List ℕ) → is_field_line line ≡ false → ReadsField t line no_line
-reads_none t line e = record {
-  meaning = both_bad (is_field_line line) (entry_field t no_entry) (field_of line) e;
-  within = record { name_ordered = omega arith; name_within = omega arith; value_ordered = omega arith; value_within = omega arith };
-}
+pub reads_none : (t line : List ℕ) → is_field_line line ≡ false → ReadsField t line None
+unfolding answer
+reads_none t line e = record { meaning = rw e; within = tt }
 
 -- the value's places, trimmed, in the line: v has them from place k on
 module _ (s : List ℕ) (k : ℕ) (v : Span) (g : v ≡ span_of (take (length s - k) (drop k s))) where
@@ -105,18 +102,18 @@ module _ (s : List ℕ) (k : ℕ) (v : Span) (g : v ≡ span_of (take (length s 
   unfolding part_of
   value-is = part_shift s k v.start v.end ∙ rw span_is (span_trims (drop k s))
 
-abbrev placed : ℕ → Span → FieldLine
-placed n v = record { good = true; entry = record { name_start = 0; name_end = n; value_start = n + 1 + v.start; value_end = n + 1 + v.end } }
+abbrev placed : ℕ → Span → Entry
+placed n v = record { name = record { start = 0; end = n }; value = record { start = n + 1 + v.start; end = n + 1 + v.end } }
 
 module _ (s : List ℕ) (n : ℕ) (h : n ≡ 0 + length (run is_tchar s)) (e : starts_with (octets ":") (drop n s) ≡ true) (m : ℕ) (f : m ≡ n + 1 + length (run is_text (drop (n + 1) s))) (k : length s ≤ m) (j : 0 < n) (v : Span) (g : v ≡ span_of (take (length s - (n + 1)) (drop (n + 1) s))) where
-  placed_field : entry_field s (placed n v).entry ≡ field_of s
+  placed_field : entry_field s (placed n v) ≡ field_of s
   unfolding entry_field part_of
   placed_field = sym (field_is s n h e m f k ∙ rw (← value-is s (n + 1) v g, sub-zero))
 
-  pub reads_good : ReadsField s s (placed n v)
+  pub reads_good : ReadsField s s (Some (placed n v))
   unfolding answer
   reads_good = record {
-    meaning = rw (is_line s n h e m f k j) (ap some placed_field);
+    meaning = rw (is_line s n h e m f k j) (ap Some placed_field);
     within = record {
       name_ordered = omega arith;
       name_within = name_within s n h;

@@ -1,5 +1,5 @@
 pub mod AnswerLaws
 pub mod FieldLineLaws
 pub mod StatusLaws
-pub mod TrailerLaws
+pub mod PlacedLaws
 pub mod SearchLaws

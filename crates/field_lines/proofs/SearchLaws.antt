@@ -1,76 +1,59 @@
--- The fields of a text's lines, looked up by name one line after the other. Assumes nothing.
-use mathlib.Core.Path.{◌≡◌, ap, ◌∙◌}
-use mathlib.Core.Bool.{true, false}
+-- The fields of a text's lines, looked up by name among the lines with their places. Assumes nothing.
+use mathlib.Core.Path.{◌≡◌, refl, sym, ap, ◌∙◌}
+use mathlib.Core.Bool.{Bool, true, false, ◌&&◌}
 use mathlib.Core.List.{List, [], ◌∷◌}
-use Prim.Native.Nat.{ℕ, ◌+◌, ◌-◌, ◌≤◌, ◌<◌}
-use native.Mathlib.Omega.{arith}
-use lib.ListN.{length, take, drop}
+use Prim.Native.Nat.{ℕ, ◌+◌}
+use lib.ListN.{length}
+use Rattle.std.specs.Borrow.{Bor}
+use Rattle.std.specs.Option.{option_map}
+use Rattle.std.specs.List.{list_all, filter, find}
+use Rattle.std.specs.Prelude.{Option, None, Some, MatchOption}
 use Rattle.stream.specs.Bytes.{same_name}
-use Rattle.stream.specs.Fields.{values_of}
-use Rattle.stream.specs.Lines.{Field, is_field_line, field_of, are_field_lines, fields_of, text_lines}
+use Rattle.stream.specs.Fields.{value_of, count_of, values_of}
+use Rattle.stream.specs.Lines.{is_field_line, field_of, are_field_lines, fields_of}
 use Rattle.stream.proofs.Truth.{left_holds, right_holds}
-use Rattle.text.specs.Line.{line_length}
-use Rattle.text.proofs.LineLaws.{line_within, text_none, text_end, text_first}
-use Rattle.field_lines.specs.Entries.{entry_name, entry_value, entry_field}
-use Rattle.field_lines.specs.Reading.{ReadsField}
-use Rattle.field_lines.specs.declared.line.FieldLine.{FieldLine}
-use Rattle.field_lines.proofs.AnswerLaws.{line_good, line_field}
+use Rattle.field_lines.specs.Placed.{placed_from, line_item}
 
--- ---- a field line by its entry
+abbrev pub is_line : ℕ × List ℕ → Bool
+is_line p = is_field_line p.1
 
-module _ {line : List ℕ} {r : FieldLine} (x : ReadsField line line r) (h : is_field_line line ≡ true) where
-  same_field : entry_field line r.entry ≡ field_of line
-  same_field = line_field x (line_good x ∙ h)
+abbrev pub is_named : List ℕ → ℕ × List ℕ → Bool
+is_named name p = is_field_line p.1 && same_name name (field_of p.1).name
 
-  pub entry_name_lem : entry_name line r.entry ≡ (field_of line).name
-  unfolding entry_field
-  entry_name_lem = ap (λ (f : Field). f.name) same_field
+pub all_lines : (i : ℕ) (ls : List (List ℕ)) → list_all is_line (placed_from i ls) ≡ are_field_lines ls
+unfolding placed_from are_field_lines
+all_lines i [] = refl
+all_lines i (l ∷ ls) = ap (λ (t : Bool). is_field_line l && t) (all_lines (i + length l + 2) ls)
 
-  pub entry_value_lem : entry_value line r.entry ≡ (field_of line).value
-  unfolding entry_field
-  entry_value_lem = ap (λ (f : Field). f.value) same_field
+module _ (name : List ℕ) where
+  pub count_named : (i : ℕ) (ls : List (List ℕ)) → are_field_lines ls ≡ true → length (filter (is_named name) (placed_from i ls)) ≡ count_of name (fields_of ls)
+  unfolding placed_from are_field_lines fields_of values_of
+  count_named i [] h = refl
+  count_named i (l ∷ ls) h = go (same_name name (field_of l).name) refl (count_named (i + length l + 2) ls (right_holds (is_field_line l) (are_field_lines ls) h))
+    where
+      go : (t : Bool) → same_name name (field_of l).name ≡ t → length (filter (is_named name) (placed_from (i + length l + 2) ls)) ≡ count_of name (fields_of ls)
+          → length (filter (is_named name) (placed_from i (l ∷ ls))) ≡ count_of name (fields_of (l ∷ ls))
+      go true e k = rw (left_holds (is_field_line l) (are_field_lines ls) h, values_of, e, k)
+      go false e k = rw (left_holds (is_field_line l) (are_field_lines ls) h, values_of, e, k)
 
--- ---- the values of a name in the lines from a place on
+  -- the first that is found
+  first_named : (i : ℕ) (ls : List (List ℕ)) → are_field_lines ls ≡ true
+      → MatchOption (find (is_named name) (placed_from i ls)) (value_of name (fields_of ls) ≡ []) (λ p. (is_field_line p.1 ≡ true) × (value_of name (fields_of ls) ≡ (field_of p.1).value))
+  unfolding placed_from are_field_lines fields_of value_of
+  first_named i [] h = refl
+  first_named i (l ∷ ls) h = go (same_name name (field_of l).name) refl (first_named (i + length l + 2) ls (right_holds (is_field_line l) (are_field_lines ls) h))
+    where
+      good : is_field_line l ≡ true
+      good = left_holds (is_field_line l) (are_field_lines ls) h
 
-abbrev pub values_at : List ℕ → List ℕ → ℕ → List (List ℕ)
-values_at name s i = values_of name (fields_of (text_lines (drop i s)))
+      go : (t : Bool) → same_name name (field_of l).name ≡ t
+          → MatchOption (find (is_named name) (placed_from (i + length l + 2) ls)) (value_of name (fields_of ls) ≡ []) (λ p. (is_field_line p.1 ≡ true) × (value_of name (fields_of ls) ≡ (field_of p.1).value))
+          → MatchOption (find (is_named name) (placed_from i (l ∷ ls))) (value_of name (fields_of (l ∷ ls)) ≡ []) (λ p. (is_field_line p.1 ≡ true) × (value_of name (fields_of (l ∷ ls)) ≡ (field_of p.1).value))
+      go true e k = rw (good, value_of, e) (good, refl)
+      go false e k = rw (good, value_of, e) k
 
-abbrev pub good_at : List ℕ → ℕ → Type 0
-good_at s i = are_field_lines (text_lines (drop i s)) ≡ true
-
-pub values_out : (name s : List ℕ) (i : ℕ) → length s ≤ i → values_at name s i ≡ []
-unfolding fields_of values_of
-values_out name s i h = rw (text_none s i h)
-
--- a turn: a line begins at i and ends at e
-module _ (s : List ℕ) (i e : ℕ) (b : i < length s) (f : e ≡ i + line_length (drop i s)) where
-  abbrev line : List ℕ
-  line = take (e - i) (drop i s)
-
-  pub line_begun : (e ≡ i → ⊥) → i < e
-  line_begun k = omega (arith, k, line_within s i e b f)
-
-  pub values_end : (name : List ℕ) → e ≡ i → values_at name s i ≡ []
-  unfolding fields_of values_of
-  values_end name h = rw (text_end s i e b f h)
-
-  module _ (h : i < e) where
-    both_good : good_at s i → (is_field_line line ≡ true) × good_at s (e + 2)
-    unfolding are_field_lines
-    both_good g =
-        let k = rw (text_first s i e b f h) at g in
-        (left_holds (is_field_line line) (are_field_lines (text_lines (drop (e + 2) s))) k, right_holds (is_field_line line) (are_field_lines (text_lines (drop (e + 2) s))) k)
-
-    pub first_good : good_at s i → is_field_line line ≡ true
-    first_good g = (both_good g).0
-
-    pub others_good : good_at s i → good_at s (e + 2)
-    others_good g = (both_good g).1
-
-    pub values_hit : (name : List ℕ) → same_name name (field_of line).name ≡ true → values_at name s i ≡ (field_of line).value ∷ values_at name s (e + 2)
-    unfolding fields_of values_of
-    values_hit name t = rw (text_first s i e b f h, values_of, t)
-
-    pub values_next : (name : List ℕ) → same_name name (field_of line).name ≡ false → values_at name s i ≡ values_at name s (e + 2)
-    unfolding fields_of values_of
-    values_next name t = rw (text_first s i e b f h, values_of, t)
+  -- v is the value of the line that was found
+  pub found_value : (i : ℕ) (ls : List (List ℕ)) (r : Option (ℕ × Bor (List ℕ))) (v : List ℕ) → option_map line_item r ≡ find (is_named name) (placed_from i ls) → are_field_lines ls ≡ true
+      → MatchOption r (v ≡ []) (λ p. is_field_line p.1.now ≡ true → v ≡ (field_of p.1.now).value) → v ≡ value_of name (fields_of ls)
+  found_value i ls None v e g h = h ∙ sym (rw (← e) at (first_named i ls g))
+  found_value i ls (Some p) v e g h = let n = rw (← e) at (first_named i ls g) in h n.0 ∙ sym n.1

@@ -4,8 +4,8 @@ use mathlib.Core.Bool.{Bool, true, false, ◌&&◌, false≢true}
 use mathlib.Core.List.{List, [], ◌∷◌}
 use Prim.Native.Nat.{ℕ, ◌+◌, ◌-◌, ◌≤◌, ◌<◌}
 use native.Mathlib.Omega.{arith}
-use borrow.Author.Tests.{eq-eqb, ne_eqb, eqb-true}
-use lib.Dec.{eqb}
+use borrow.Author.Tests.{eq-eqb, ne_eqb, eqb-true, eqb-false, leb-true, leb-false}
+use lib.Dec.{eqb, leb}
 use lib.ListN.{length, take, drop, length-take, length-drop}
 use Rattle.octets.specs.Octets.{octets}
 use Rattle.stream.specs.Bytes.{is_digit, is_text}
@@ -63,6 +63,32 @@ module _ (s : List ℕ) where
       pub is_status_lem : length s ≤ m → is_status_line s ≡ true
       unfolding is_status_line
       is_status_lem h = rw (by_digits v 12 d, by_reason, scan_end s m h) (eq-eqb _ 3 (digits_long v 12 d))
+
+-- the tests of the code, one after the other
+pub status_is : (s : List ℕ) → is_status_line s ≡ starts_with (octets "HTTP/1.1 ") s && (eqb (9 + length (run is_digit (drop 9 s))) 12 && (starts_with (octets " ") (drop 12 s) && leb (length s) (13 + length (run is_text (drop 13 s)))))
+status_is s = by_version (starts_with (octets "HTTP/1.1 ") s) refl
+  where
+    n : ℕ
+    n = 9 + length (run is_digit (drop 9 s))
+
+    m : ℕ
+    m = 13 + length (run is_text (drop 13 s))
+
+    by_reason' : (v : starts_with (octets "HTTP/1.1 ") s ≡ true) (d : 12 ≡ n) (e : starts_with (octets " ") (drop 12 s) ≡ true) (t : Bool) → leb (length s) m ≡ t → is_status_line s ≡ t
+    by_reason' v d e true h = is_status_lem s v d e m refl (leb-true (length s) m h)
+    by_reason' v d e false h = no_reason s v d e m refl (leb-false (length s) m h)
+
+    by_space : (v : starts_with (octets "HTTP/1.1 ") s ≡ true) (d : 12 ≡ n) (t : Bool) → starts_with (octets " ") (drop 12 s) ≡ t → is_status_line s ≡ t && leb (length s) m
+    by_space v d true e = by_reason' v d e (leb (length s) m) refl
+    by_space v d false e = no_space s v d e
+
+    by_number : (v : starts_with (octets "HTTP/1.1 ") s ≡ true) (t : Bool) → eqb n 12 ≡ t → is_status_line s ≡ t && (starts_with (octets " ") (drop 12 s) && leb (length s) m)
+    by_number v true h = by_space v (sym (eqb-true n 12 h)) (starts_with (octets " ") (drop 12 s)) refl
+    by_number v false h = no_digits s v n refl (eqb-false n 12 h)
+
+    by_version : (t : Bool) → starts_with (octets "HTTP/1.1 ") s ≡ t → is_status_line s ≡ t && (eqb n 12 && (starts_with (octets " ") (drop 12 s) && leb (length s) m))
+    by_version true v = by_number v (eqb n 12) refl
+    by_version false v = no_version s v
 
 -- ---- for callers: where the digits stand
 

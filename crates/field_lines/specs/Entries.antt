@@ -6,21 +6,21 @@ use Rattle.places.specs.Place.{part_of}
 use Rattle.field_lines.specs.declared.entry.Entry.{Entry}
 
 abbrev pub entry_name : List ℕ → Entry → List ℕ
-entry_name text e = part_of text e.name_start e.name_end
+entry_name text e = part_of text e.name.start e.name.end
 
 abbrev pub entry_value : List ℕ → Entry → List ℕ
-entry_value text e = part_of text e.value_start e.value_end
+entry_value text e = part_of text e.value.start e.value.end
 
 unfoldable pub entry_field : List ℕ → Entry → Field
 entry_field text e = record { name = entry_name text e; value = entry_value text e }
 
 -- where nothing was read an entry stands for no bytes
 abbrev pub no_entry : Entry
-no_entry = record { name_start = 0; name_end = 0; value_start = 0; value_end = 0 }
+no_entry = record { name = record { start = 0; end = 0 }; value = record { start = 0; end = 0 } }
 
 -- an entry's places are those of parts of a text so long
 pub record Within (size : ℕ) (e : Entry) : Type 0 where
-  pub name_ordered : e.name_start ≤ e.name_end
-  pub name_within : e.name_end ≤ size
-  pub value_ordered : e.value_start ≤ e.value_end
-  pub value_within : e.value_end ≤ size
+  pub name_ordered : e.name.start ≤ e.name.end
+  pub name_within : e.name.end ≤ size
+  pub value_ordered : e.value.start ≤ e.value.end
+  pub value_within : e.value.end ≤ size

@@ -3,10 +3,12 @@
 
 mod entry; // where a field's name and value lie
 mod line; // one field line, and the status line
+mod lines; // the lines of a text, with their places
 mod search; // the fields of a trailer by their name
 mod trailer; // a trailer, whose fields are not kept
 
-pub use entry::{Entry, no_entry};
-pub use line::{FieldLine, field_line, is_status_line};
+pub use entry::Entry;
+pub use line::{field_line, is_status_line};
+pub use lines::{Lines, lines_from};
 pub use search::{count_in, value_in};
 pub use trailer::{ends_trailer, is_trailer};

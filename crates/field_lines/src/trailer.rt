@@ -4,6 +4,7 @@ ghost use Rattle.stream.specs.Lines.{are_field_lines, text_lines};
 ghost use Rattle.stream.specs.Trailer.{ends_trailer, is_trailer};
 
 use crate::line;
+use crate::lines::lines_from;
 
 pub fn ends_trailer(text: &[u8]) -> bool
     ensures { result ≡ ends_trailer text.now }
@@ -14,19 +15,7 @@ pub fn ends_trailer(text: &[u8]) -> bool
 fn are_field_lines(text: &[u8]) -> bool
     ensures { result ≡ are_field_lines (text_lines text.now) }
 {
-    let mut i = 0;
-    while i < text.len() {
-        let end = text::line_end(text, i);
-        if end == i {
-            return true;
-        }
-        let r = line::field_line(&text[i..end]);
-        if !r.good {
-            return false;
-        }
-        i = end + 2;
-    }
-    true
+    lines_from(text, 0).all(|(_, line)| line::field_line(line).is_some())
 }
 
 pub fn is_trailer(text: &[u8]) -> bool

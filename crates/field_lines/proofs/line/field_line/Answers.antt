@@ -5,16 +5,15 @@ use native.Mathlib.Omega.{arith}
 use Rattle.classes.specs.Class.{class_of}
 use Rattle.field_lines.proofs.FieldLineLaws.{no_name, no_colon, colon_within, no_text, reads_none, value_ordered, value_within, reads_good}
 use Rattle.field_lines.proofs.line.field_line.Goals as goal
+use Rattle.field_lines.proofs.line.field_line.Goals.{then-colon-eq0-via-then-colon-eq0, then-colon-eq0-via-else-colon-eq0+then-not-starts_with}
 
 pub returns-then-colon-eq0 : goal.returns-then-colon-eq0
 unfolding class_of
 returns-then-colon-eq0 c =
-    rw c.no_line.ensures (reads_none _ _ (no_name _ _ c.run_end-colon.ensures c.if-colon-eq0.true))
-
-pub returns-then-not-starts_with : goal.returns-then-not-starts_with
-unfolding class_of
-returns-then-not-starts_with c =
-    rw c.no_line-then-not-starts_with.ensures (reads_none _ _ (no_colon _ _ c.run_end-colon.ensures (sym c.starts_with.ensures ∙ c.if-not-starts_with.true)))
+    elim c.then-colon-eq0.branch [
+      | then-colon-eq0-via-then-colon-eq0 w ↦ reads_none _ _ (no_name _ _ c.run_end-colon.ensures w.if-colon-eq0.true)
+      | then-colon-eq0-via-else-colon-eq0+then-not-starts_with w ↦ reads_none _ _ (no_colon _ _ c.run_end-colon.ensures (sym w.starts_with.ensures ∙ w.if-not-starts_with.true))
+    ]
 
 pub overflow_add-start : goal.overflow_add-start
 unfolding class_of
@@ -23,7 +22,7 @@ overflow_add-start c = omega (arith, colon_within _ _ c.run_end-colon.ensures (s
 pub returns-then-run_end-line : goal.returns-then-run_end-line
 unfolding class_of
 returns-then-run_end-line c =
-    rw c.no_line-then-run_end-line.ensures (reads_none _ _ (no_text _ _ c.run_end-colon.ensures (sym c.starts_with.ensures ∙ c.if-not-starts_with.false) _ c.run_end.ensures c.if-run_end-line.true))
+    reads_none _ _ (no_text _ _ c.run_end-colon.ensures (sym c.starts_with.ensures ∙ c.if-not-starts_with.false) _ c.run_end.ensures c.if-run_end-line.true)
 
 pub slice_bounds-trim-count : goal.slice_bounds-trim-count
 unfolding class_of

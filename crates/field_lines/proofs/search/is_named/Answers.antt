@@ -1,11 +1,8 @@
--- The name at the entry's places. Assumes nothing.
-use mathlib.Core.Path.{ap, ◌∙◌}
+-- What the entry says of the line's name. Assumes nothing.
+use borrow.Author.Rules.{rules}
 use Rattle.stream.specs.Bytes.{same_name}
-use Rattle.field_lines.proofs.SearchLaws.{entry_name_lem}
+use Rattle.field_lines.proofs.AnswerLaws.{line_test}
 use Rattle.field_lines.proofs.search.is_named.Goals as goal
 
 pub returns : goal.returns
-returns c =
-    λ h. (
-    c.same_name.ensures ∙ ap (same_name _) (c.part.ensures ∙ entry_name_lem c.field_line-r.ensures h)
-    )
+returns c = line_test c.field_line.result (same_name c.args.name.now) _ c.field_line.ensures (search rules)

@@ -1,7 +1,7 @@
 -- The value at the entry's places. Assumes nothing.
-use mathlib.Core.Path.{◌∙◌}
-use Rattle.field_lines.proofs.SearchLaws.{entry_value_lem}
+use borrow.Author.Rules.{rules}
+use Rattle.field_lines.proofs.AnswerLaws.{line_value}
 use Rattle.field_lines.proofs.search.value.Goals as goal
 
 pub returns : goal.returns
-returns c = λ h. c.part.ensures ∙ entry_value_lem c.field_line-r.ensures h
+returns c = line_value c.field_line.result _ c.field_line.ensures (search rules)
