@@ -8,8 +8,9 @@ use borrow.Author.Tests.{leb-true}
 use lib.Dec.{leb}
 use lib.ListN.{length, length-append, length-drop}
 use Rattle.blocks.specs.Writing.{at_front, message_written}
-use Rattle.chunk.specs.declared.judging.LineAnswer.{LineAnswer}
-use Rattle.chunk.specs.declared.judging.LineAnswer.TheVariants as A
+use Rattle.chunk.specs.declared.judging.Line.{Line}
+use Rattle.refusals.specs.declared.Refusal.{Refusal}
+use Rattle.std.specs.Prelude.{Result, Ok, Err}
 use Rattle.number.specs.Writing.{written}
 use Rattle.octets.specs.Choice.{pick}
 use Rattle.stream.specs.Blocks.{is_whole_line}
@@ -35,14 +36,14 @@ module _ (m out : List ℕ) where
 
 -- ---- the pushes
 
-kept_first : (d : Configuration) (a : LineAnswer) (carried : List ℕ) → Kept d (first_answered d a carried)
+kept_first : (d : Configuration) (judged : Result Line Refusal) → Kept d (first_answered d judged)
 unfolding first_answered
-kept_first d (A.Refused n) carried = kept_refuse n 0 d
-kept_first d (A.Good size) carried = kept_on d _ refl refl refl
+kept_first d (Err why) = kept_refuse why 0 d
+kept_first d (Ok line) = kept_on d _ refl refl refl
 
 kept_first_gathered : (d : Configuration) (n : ℕ) → Kept d (first_gathered d n)
 unfolding first_gathered
-kept_first_gathered d n = kept_pick d (is_whole_line (line_of d n)) _ _ (kept_first d _ _) (kept_on d d refl refl refl)
+kept_first_gathered d n = kept_pick d (is_whole_line (line_of d n)) _ _ (kept_first d _) (kept_on d d refl refl refl)
 
 pub kept_first_line : (d : Configuration) (have x : ℕ) → Kept d (push_first_line d have x)
 unfolding push_first_line
@@ -52,14 +53,14 @@ kept_asked : (d : Configuration) (size next : ℕ) (signature : List ℕ) → Ke
 unfolding asked message_now
 kept_asked d size next signature = record { head = refl; block = refl; question = length_written _ d.question }
 
-kept_next : (d : Configuration) (size : ℕ) (a : LineAnswer) (signature : List ℕ) → Kept d (next_answered d size a signature)
+kept_next : (d : Configuration) (size : ℕ) (judged : Result Line Refusal) → Kept d (next_answered d size judged)
 unfolding next_answered
-kept_next d size (A.Refused n) signature = kept_refuse n size d
-kept_next d size (A.Good next) signature = kept_asked d size next signature
+kept_next d size (Err why) = kept_refuse why size d
+kept_next d size (Ok line) = kept_asked d size line.size line.carried
 
 kept_next_gathered : (d : Configuration) (n size : ℕ) → Kept d (next_gathered d n size)
 unfolding next_gathered
-kept_next_gathered d n size = kept_pick d (is_whole_line (line_of d n)) _ _ (kept_next d size _ _) (kept_on d d refl refl refl)
+kept_next_gathered d n size = kept_pick d (is_whole_line (line_of d n)) _ _ (kept_next d size _) (kept_on d d refl refl refl)
 
 pub kept_next_line : (d : Configuration) (have size x : ℕ) → Kept d (push_next_line d have size x)
 unfolding push_next_line

@@ -1,3 +1,1 @@
 pub mod KeptLines
-pub mod LineLaws
-pub mod QuestionLaws

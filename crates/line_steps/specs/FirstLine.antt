@@ -1,12 +1,10 @@
 -- What one byte of the first chunk line does, and what all lines share (paper 01, "Blocks"): the byte is gathered, and the line that is
 -- whole with it is judged. In a state that no stream leads to, with a count past the limit, the line is refused as too long.
 -- Assumes nothing.
-use Rattle.std.specs.Prelude.{true, false, List, ℕ, ◌+◌, ◌/◌, eqb, leb, take, set}
+use Rattle.std.specs.Prelude.{true, false, List, ℕ, ◌+◌, ◌/◌, eqb, leb, take, set, Result, Ok, Err}
 use Rattle.octets.specs.Choice.{pick}
 use Rattle.chunk.specs.Judging.{line_judged}
 use Rattle.chunk.specs.declared.judging.Line.{Line}
-use Rattle.chunk.specs.declared.judging.LineAnswer.{LineAnswer}
-use Rattle.chunk.specs.declared.judging.LineAnswer.TheVariants as A
 use Rattle.ranges.specs.Extent.{range_in}
 use Rattle.refusals.specs.Refusals.{placed}
 use Rattle.refusals.specs.declared.Refusal.{Refusal}
@@ -45,20 +43,20 @@ starting r hash =
     r.chain
     (record { number = record { 0 = first_now r / r.fixed.block_size }; hash = hash; body = r.chain.body })
 
--- the first line, where nothing is pending, with what it carries
-unfoldable pub first_answered : Configuration → LineAnswer → List ℕ → Next
-first_answered d (A.Refused n) carried = refuse n 0 d
-first_answered d (A.Good size) carried =
-    on (configuration (with_chain d.reader (announced size 0) (starting d.reader carried)) d.head d.block d.question)
+-- the first line, where nothing is pending
+unfoldable pub first_answered : Configuration → Result Line Refusal → Next
+first_answered d (Err why) = refuse why 0 d
+first_answered d (Ok line) =
+    on (configuration (with_chain d.reader (announced line.size 0) (starting d.reader line.carried)) d.head d.block d.question)
 
-unfoldable pub first_judged : Reader → List ℕ → Line
+unfoldable pub first_judged : Reader → List ℕ → Result Line Refusal
 first_judged r l = line_judged r.fixed.block_size (range_now r) false true (first_now r) l
 
 -- the n bytes so far are a whole line, or it goes on
 unfoldable pub first_gathered : Configuration → ℕ → Next
 first_gathered d n =
     pick (is_whole_line (line_of d n))
-    (first_answered d (first_judged d.reader (line_of d n)).answer (first_judged d.reader (line_of d n)).carried)
+    (first_answered d (first_judged d.reader (line_of d n)))
     (on d)
 
 unfoldable pub push_first_line : Configuration → ℕ → ℕ → Next

@@ -1,13 +1,12 @@
 -- What one byte of the line after a block does, which carries the block's signature (paper 01, "Blocks"): the byte is gathered, and the
 -- line that is whole with it is judged; a good one asks about the block. Assumes nothing.
-use Rattle.std.specs.Prelude.{true, List, [], ℕ, ◌+◌, ◌-◌, min, eqb, leb, take, set}
+use Rattle.std.specs.Prelude.{true, List, [], ℕ, ◌+◌, ◌-◌, min, eqb, leb, take, set, Result, Ok, Err}
 use Rattle.octets.specs.Choice.{pick}
 use Rattle.chunk.specs.Judging.{line_judged}
 use Rattle.blocks.specs.Place.{offset_at, largest}
 use Rattle.blocks.specs.Writing.{message_written}
 use Rattle.chunk.specs.declared.judging.Line.{Line}
-use Rattle.chunk.specs.declared.judging.LineAnswer.{LineAnswer}
-use Rattle.chunk.specs.declared.judging.LineAnswer.TheVariants as A
+use Rattle.refusals.specs.declared.Refusal.{Refusal}
 use Rattle.blocks.specs.declared.offsets.ByteOffset.{ByteOffset}
 use Rattle.number.specs.Writing.{Written}
 use Rattle.sha256.specs.Midstate.{added}
@@ -32,7 +31,7 @@ body_with r size = min ((offset_now r).0 + size) largest
 unfoldable pub released_with : Reader → ℕ → ℕ
 released_with r size = body_with r size - first_now r
 
-unfoldable pub next_judged : Reader → ℕ → List ℕ → Line
+unfoldable pub next_judged : Reader → ℕ → List ℕ → Result Line Refusal
 next_judged r size l = line_judged r.fixed.block_size (range_now r) true (eqb size r.fixed.block_size) (body_with r size) l
 
 -- the hash of the block, the first `size` bytes of the block buffer
@@ -55,14 +54,14 @@ asked d size next signature =
     stop (W.Question (message_now d size).count d.reader.fixed.key) signature
     (configuration (with_hash d.reader (P.BlockAsked size next) (hash_now d size) (body_now d size)) d.head d.block (message_now d size).bytes)
 
-unfoldable pub next_answered : Configuration → ℕ → LineAnswer → List ℕ → Next
-next_answered d size (A.Refused n) signature = refuse n size d
-next_answered d size (A.Good next) signature = asked d size next signature
+unfoldable pub next_answered : Configuration → ℕ → Result Line Refusal → Next
+next_answered d size (Err why) = refuse why size d
+next_answered d size (Ok line) = asked d size line.size line.carried
 
 unfoldable pub next_gathered : Configuration → ℕ → ℕ → Next
 next_gathered d n size =
     pick (is_whole_line (line_of d n))
-    (next_answered d size (next_judged d.reader size (line_of d n)).answer (next_judged d.reader size (line_of d n)).carried)
+    (next_answered d size (next_judged d.reader size (line_of d n)))
     (on d)
 
 unfoldable pub push_next_line : Configuration → ℕ → ℕ → ℕ → Next

@@ -4,7 +4,7 @@ ghost use Rattle.stream.specs.Blocks.{is_whole_line};
 ghost use Rattle.state.specs.Configuration.{configuration, next_of};
 ghost use Rattle.line_steps.specs.FirstLine.{announced as announcedPhase, first_answered, first_gathered, push_first_line, starting, too_long};
 
-use chunk::LineAnswer;
+use chunk::Line;
 use limits::LINE_LIMIT;
 use refusals::Refusal;
 use state::{Chain, Phase, Reader, Stepped, Word, in_phase, said, with_chain, with_line};
@@ -19,6 +19,7 @@ pub(crate) fn too_long() -> Refusal
     }
 }
 
+#[tactic(auto, unfolding(stream::specs::Blocks::is_whole_line))]
 pub(crate) fn is_whole_line(line: &[u8]) -> bool
     ensures { result ≡ is_whole_line line.now }
 {
@@ -39,54 +40,54 @@ pub fn announced(size: usize, total: u64) -> Phase
 fn started(r: Reader, hash: [u8; 64]) -> Chain
     ensures { result ≡ starting r hash }
 {
-    let chain = r.chain;
-    let fixed = r.fixed;
-    let extent = fixed.extent;
-    let first = ranges::first_byte(extent);
+    let first = ranges::first_byte(r.fixed.extent);
     if first.0 == 0 {
-        return chain;
+        return r.chain;
     }
-    let number = blocks::block_at(first, fixed.block_size as u64);
-    let body = chain.body;
-    Chain { number, hash, body }
+    let number = blocks::block_at(first, r.fixed.block_size as u64);
+    Chain {
+        number,
+        hash,
+        ..r.chain
+    }
 }
 
 // Before the first block nothing is pending, so that a refusal clears nothing.
-fn answer_first(r: Reader, answer: LineAnswer, carried: [u8; 64]) -> Stepped
-    ensures { (h b q : List ℕ) → next_of result h b q ≡ first_answered (configuration r h b q) answer carried }
+#[tactic(auto, using(state::proofs::BufferLaws::cleared_none), unfolding(crate::specs::FirstLine::first_answered, state::specs::Configuration::refuse))]
+fn answer_first(r: Reader, judged: Result<Line, Refusal>) -> Stepped
+    ensures { (h b q : List ℕ) → next_of result h b q ≡ first_answered (configuration r h b q) judged }
 {
-    match answer {
-        LineAnswer::Refused(why) => said(
-            Word::Refused(why),
-            in_phase(r, Phase::Refused(why.number)),
-        ),
-        LineAnswer::Good { size } => said(
+    match judged {
+        Err(why) => said(Word::Refused(why), in_phase(r, Phase::Refused(why.number))),
+        Ok(line) => said(
             Word::More,
-            with_chain(r, announced(size as usize, 0), started(r, carried)),
+            with_chain(
+                r,
+                announced(line.size as usize, 0),
+                started(r, line.carried),
+            ),
         ),
     }
 }
 
 // With its newest byte, the line is the first n bytes of the state's.
+#[tactic(auto, unfolding(crate::specs::FirstLine::first_gathered, crate::specs::FirstLine::first_judged))]
 fn judge_first(r: Reader, n: usize) -> Stepped
     requires { n ≤ 128 }
     ensures { (h b q : List ℕ) → next_of result h b q ≡ first_gathered (configuration r h b q) n }
 {
-    let line = r.line;
-    if !is_whole_line(&line[0..n]) {
+    let line = &r.line[..n];
+    if !is_whole_line(line) {
         return said(Word::More, r);
     }
-    let fixed = r.fixed;
-    let size = fixed.block_size;
-    let extent = fixed.extent;
+    let extent = r.fixed.extent;
     let first = ranges::first_byte(extent);
-    let judged = chunk::judge(&line[0..n], size, extent, false, true, first.0);
-    let answer = judged.answer;
-    let carried = judged.carried;
-    answer_first(r, answer, carried)
+    let judged = chunk::judge(line, r.fixed.block_size, extent, false, true, first.0);
+    answer_first(r, judged)
 }
 
 // A byte of the first chunk line, of which `have` bytes have come.
+#[tactic(auto, using(state::proofs::BufferLaws::cleared_none), unfolding(crate::specs::FirstLine::push_first_line, state::specs::Configuration::refuse))]
 pub fn push_first_line(r: Reader, have: usize, x: u8) -> Stepped
     ensures { (h b q : List ℕ) → next_of result h b q ≡ push_first_line (configuration r h b q) have x }
 {
