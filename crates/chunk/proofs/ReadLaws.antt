@@ -35,8 +35,8 @@ use Rattle.chunk.specs.declared.reading.Carried.TheVariants.{Nothing, Signature,
 use Rattle.chunk.specs.declared.reading.ChunkText.{ChunkText}
 
 -- a part of a slice up to its end
-pub rest-is : (l : List ℕ) (i : ℕ) → take (length l - i) (drop i l) ≡ drop i l
-rest-is l i = take_all (length l - i) (drop i l) (omega (arith, length-drop i l))
+pub rest_is : (l : List ℕ) (i : ℕ) → take (length l - i) (drop i l) ≡ drop i l
+rest_is l i = take_all (length l - i) (drop i l) (omega (arith, length-drop i l))
 
 -- ---- a signature or a hash: `said` is what decoding it has answered, and left in the buffer
 
@@ -115,7 +115,7 @@ module _ (t : List ℕ) (end : ℕ) (f : end ≡ 0 + length (run (class_of Hex) 
   unfolding text_read
   text_is {r = Ok n} e =
       let w = hex_found 8 (run is_hex t) (lit≤ tt) n (rw digits_are at (sym e)) in
-      rw (w.0, w.1, rest-is t end, digits_end, past_drop)
+      rw (w.0, w.1, rest_is t end, digits_end, past_drop)
   text_is {r = Err p} e = rw (hex_missed 8 (run is_hex t) (lit≤ tt) p (rw digits_are at (sym e)))
 
 -- ---- the whole line

@@ -1,85 +1,18 @@
--- The rules of a chunk line, one after the other, and the line by the first that is broken. Assumes nothing.
-use mathlib.Core.Bool.{Bool, true, false, ◌&&◌, ◌||◌, not}
+-- The line by the first of its rules that is broken. Assumes nothing.
+use mathlib.Core.Bool.{Bool, true, false}
 use mathlib.Core.List.{List}
 use mathlib.Core.Path.{◌≡◌, refl, sym, ap, ◌∙◌}
-use Prim.Native.Nat.{ℕ, zero, suc, ◌+◌, ◌≤◌, ◌<◌}
-use borrow.Author.Tests.{le-leb, lt-leb}
-use lib.Dec.{eqb, leb}
+use Prim.Native.Nat.{ℕ, zero, suc}
 use Rattle.std.specs.Prelude.{Some, None, Ok}
 use Rattle.octets.specs.Choice.{pick}
 use Rattle.stream.specs.Blocks.{extension, carries_signature, carries_hash, is_chunk_line, chunk_size, same_bool, is_hash_due, line_rules, line_fault}
-use Rattle.stream.specs.Limits.{body_limit}
-use Rattle.stream.specs.Range.{Range, first_byte, is_within}
+use Rattle.stream.specs.Range.{Range}
 use Rattle.stream.specs.Rule.{first_broken}
 use Rattle.chunk.specs.Judging.{refused_line, good_line, carried_by, unless_fault, line_judged}
 use Rattle.chunk.specs.Parts.{text_of, carried_of, line_read, is_signature, is_hash, is_due, size_rules, number_of, bytes_in}
 use Rattle.chunk.specs.declared.reading.Carried.TheVariants.{Nothing, Signature, Hash}
 use Rattle.chunk.specs.declared.reading.ChunkText.{ChunkText}
 use Rattle.chunk.proofs.ReadLaws.{one_name, pick_both}
-
--- ---- the rules 8, 7 and 9
-
--- what is due, in the code's words
-module _ (r : Range) (due : Bool) {a : ℕ} (e : a ≡ first_byte r) where
-  pub nothing_due : not due && not (leb 1 a && not due) ≡ is_due r due Nothing
-  unfolding is_due is_hash_due
-  nothing_due = rw e (by due (leb 1 (first_byte r)))
-    where
-      by : (t u : Bool) → not t && not (u && not t) ≡ same_bool t false && same_bool (u && not t) false
-      by true true = refl
-      by true false = refl
-      by false true = refl
-      by false false = refl
-
-  pub signature_due : (s : List ℕ) → due ≡ is_due r due (Signature s)
-  unfolding is_due is_hash_due
-  signature_due s = by due (leb 1 (first_byte r))
-    where
-      by : (t u : Bool) → t ≡ same_bool t true && same_bool (u && not t) false
-      by true true = refl
-      by true false = refl
-      by false u = refl
-
-  pub hash_due : (s : List ℕ) → leb 1 a && not due ≡ is_due r due (Hash s)
-  unfolding is_due is_hash_due
-  hash_due s = rw e (by due (leb 1 (first_byte r)))
-    where
-      by : (t u : Bool) → u && not t ≡ same_bool t false && same_bool (u && not t) true
-      by true true = refl
-      by true false = refl
-      by false true = refl
-      by false false = refl
-
-module _ (N : ℕ) (r : Range) (full : Bool) (sofar : ℕ) (size : ℕ) where
-  abbrev broken : ℕ
-  broken = first_broken (size_rules N r full sofar size)
-
-  pub breaks_7 : not (leb size N && (full || eqb size 0)) || not (is_within r sofar size) ≡ true → number_of broken ≡ Some 7
-  unfolding first_broken size_rules
-  breaks_7 h = by (leb size N && (full || eqb size 0)) (is_within r sofar size) _ h
-    where
-      by : (t u : Bool) (n : ℕ) → not t || not u ≡ true → number_of (pick t (pick u n 7) 7) ≡ Some 7
-      by false u n h = refl
-      by true false n h = refl
-      by true true n h = cc
-
-  module _ (h : not (leb size N && (full || eqb size 0)) || not (is_within r sofar size) ≡ false) where
-    keeps_7 : broken ≡ pick (leb (sofar + size) body_limit) 0 9
-    unfolding first_broken size_rules
-    keeps_7 = by (leb size N && (full || eqb size 0)) (is_within r sofar size) _ h
-      where
-        by : (t u : Bool) (n : ℕ) → not t || not u ≡ false → pick t (pick u n 7) 7 ≡ n
-        by true true n h = refl
-        by true false n h = cc
-        by false u n h = cc
-
-    pub breaks_9 : body_limit < sofar + size → number_of broken ≡ Some 9
-    breaks_9 l = rw (keeps_7, lt-leb (sofar + size) body_limit l)
-
-    pub breaks_none : sofar + size ≤ body_limit → number_of broken ≡ None
-    breaks_none l = rw (keeps_7, le-leb (sofar + size) body_limit l)
-
--- ---- the line
 
 module _ (l : List ℕ) where
   signed_is : is_signature (carried_of l) ≡ carries_signature l

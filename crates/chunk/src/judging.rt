@@ -27,6 +27,7 @@ fn refused(line: &[u8], number: u8) -> Refusal
 }
 
 // Whether a line carries just what is due: a signature, or a hash on the first line of a part that does not begin with the body.
+#[tactic(auto, unfolding(crate::specs::Parts::is_due, stream::specs::Blocks::is_hash_due))]
 fn is_due(extent: Extent, due: bool, carried: Carried) -> bool
     ensures { result ≡ is_due (range_in extent) due carried }
 {
@@ -40,6 +41,7 @@ fn is_due(extent: Extent, due: bool, carried: Carried) -> bool
 }
 
 // The number of the first broken rule about the size, for a line that announces `chunk` bytes. No body comes near the largest number.
+#[tactic(auto, unfolding(crate::specs::Parts::size_rules, stream::specs::Rule::first_broken))]
 fn broken(chunk: u64, size: u64, extent: Extent, full: bool, so_far: u64) -> Option<u8>
     ensures { result ≡ number_of (first_broken (size_rules size (range_in extent) full so_far chunk)) }
 {
@@ -65,6 +67,7 @@ fn bytes_of(carried: Carried) -> [u8; 64]
 
 // Judges a whole line: blocks have `size` bytes, the answer carries those of the extent, a signature is due or not, the block before is full or
 // not, and the body has `so_far` bytes.
+#[tactic(auto, using(crate::proofs::RuleLaws::judged_unread, crate::proofs::RuleLaws::judged_undue, crate::proofs::RuleLaws::judged_broken, crate::proofs::RuleLaws::judged_good))]
 pub fn judge(
     line: &[u8],
     size: usize,

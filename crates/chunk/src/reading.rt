@@ -19,6 +19,7 @@ pub(crate) struct ChunkText {
 }
 
 // What stands after the name of a signature, or of a hash: 64 bytes in base64.
+#[tactic(auto, using(crate::proofs::ReadLaws::bytes_read_lem))]
 fn read_bytes(value: &[u8]) -> Option<[u8; 64]>
     ensures { result ≡ bytes_read value.now }
 {
@@ -28,6 +29,7 @@ fn read_bytes(value: &[u8]) -> Option<[u8; 64]>
 }
 
 // What stands after the size: nothing, or a signature or a hash with its name in front.
+#[tactic(auto, using(crate::proofs::ReadLaws::rest_is, crate::proofs::ReadLaws::signature_room, crate::proofs::ReadLaws::hash_room), unfolding(crate::specs::Parts::extension_read))]
 fn read_extension(rest: &[u8]) -> Option<Carried>
     ensures { result ≡ extension_read rest.now }
 {
@@ -54,6 +56,7 @@ fn read_text(s: &[u8]) -> Option<ChunkText>
 }
 
 // A whole line, CR LF included.
+#[tactic(auto, using(crate::proofs::ReadLaws::line_room, crate::proofs::ReadLaws::line_ended), unfolding(crate::specs::Parts::line_read, stream::specs::Blocks::is_chunk_line))]
 pub(crate) fn read(line: &[u8]) -> Option<ChunkText>
     ensures { result ≡ line_read line.now }
 {
