@@ -70,30 +70,30 @@ fine_end d have size x =
     fine_pick (eqb have 0) _ _ refl (fine_pick (same (get_or d.reader.line 0 0 ∷ x ∷ []) crlf) _ _ refl (fine_refuse _ size d (omega arith)))
 
 -- a line's refusal has a number of the rules
-fine_first : (d : Configuration) (N : ℕ) (r : Range) (sofar : ℕ) (l carried carried' : List ℕ) (fault : ℕ) → line_fault N r false true sofar l ≡ fault
-    → Fine (first_answered d (unless_fault fault l (good_line (chunk_size l) carried)).answer carried')
+fine_first : (d : Configuration) (N : ℕ) (r : Range) (sofar : ℕ) (l carried : List ℕ) (fault : ℕ) → line_fault N r false true sofar l ≡ fault
+    → Fine (first_answered d (unless_fault fault l (good_line (chunk_size l) carried)))
 unfolding first_answered
-fine_first d N r sofar l carried carried' zero e = fine_picked (eqb (chunk_size l) 0) (P.Trailer 0 0) (P.Data 0 (chunk_size l)) refl refl
-fine_first d N r sofar l carried carried' (suc n) e = fine_refuse _ 0 d (line_number N r false true sofar l n e)
+fine_first d N r sofar l carried zero e = fine_picked (eqb (chunk_size l) 0) (P.Trailer 0 0) (P.Data 0 (chunk_size l)) refl refl
+fine_first d N r sofar l carried (suc n) e = fine_refuse _ 0 d (line_number N r false true sofar l n e)
 
 fine_first_line : (d : Configuration) (have x : ℕ) → Fine (push_first_line d have x)
 unfolding push_first_line first_gathered first_judged line_judged
 fine_first_line d have x =
     fine_pick (leb line_limit have) _ _ (fine_refuse _ 0 d (omega arith))
-    (fine_pick (is_whole_line (take (have + 1) (set d.reader.line have x))) _ _ (fine_first _ d.reader.fixed.block_size (range_now d.reader) (first_now d.reader) _ _ _ _ refl) refl)
+    (fine_pick (is_whole_line (take (have + 1) (set d.reader.line have x))) _ _ (fine_first _ d.reader.fixed.block_size (range_now d.reader) (first_now d.reader) _ _ _ refl) refl)
 
-fine_next : (d : Configuration) (size N : ℕ) (r : Range) (full : Bool) (sofar : ℕ) (l signature signature' : List ℕ) (fault : ℕ) → line_fault N r true full sofar l ≡ fault
-    → Fine (next_answered d size (unless_fault fault l (good_line (chunk_size l) signature)).answer signature')
+fine_next : (d : Configuration) (size N : ℕ) (r : Range) (full : Bool) (sofar : ℕ) (l signature : List ℕ) (fault : ℕ) → line_fault N r true full sofar l ≡ fault
+    → Fine (next_answered d size (unless_fault fault l (good_line (chunk_size l) signature)))
 unfolding next_answered Line.asked
-fine_next d size N r full sofar l signature signature' zero e = refl
-fine_next d size N r full sofar l signature signature' (suc n) e = fine_refuse _ size d (line_number N r true full sofar l n e)
+fine_next d size N r full sofar l signature zero e = refl
+fine_next d size N r full sofar l signature (suc n) e = fine_refuse _ size d (line_number N r true full sofar l n e)
 
 fine_next_line : (d : Configuration) (have size x : ℕ) → Fine (push_next_line d have size x)
 unfolding push_next_line next_gathered next_judged line_judged
 fine_next_line d have size x =
     fine_pick (leb line_limit have) _ _ (fine_refuse _ size d (omega arith))
     (fine_pick (is_whole_line (take (have + 1) (set d.reader.line have x))) _ _
-    (fine_next _ size d.reader.fixed.block_size (range_now d.reader) (eqb size d.reader.fixed.block_size) _ _ _ _ _ refl) refl)
+    (fine_next _ size d.reader.fixed.block_size (range_now d.reader) (eqb size d.reader.fixed.block_size) _ _ _ _ refl) refl)
 
 -- a trailer's, and the end's
 fine_answered : (d : Configuration) (have total : ℕ) (j : Judgement) → Numbered j.answer.answer → Fine (judged_at d have total j)

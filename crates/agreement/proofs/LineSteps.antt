@@ -93,7 +93,7 @@ module _ (terms : Terms) (fields : List Field) (d : Configuration) (x : ℕ) (le
     answered : (fault : ℕ) → line_fault s.size (range s) false true a₀ l ≡ fault
         → SoundSays (unless_broken fault (line_place l) (go (announced s (start_of s l) 0 (chunk_size l))))
         → Follows terms fields
-        (first_answered d' (unless_fault fault l (good_line (chunk_size l) (carried_by l))).answer (unless_fault fault l (good_line (chunk_size l) (carried_by l))).carried)
+        (first_answered d' (unless_fault fault l (good_line (chunk_size l) (carried_by l))))
         (ruling (unless_broken fault (line_place l) (go (announced s (start_of s l) 0 (chunk_size l)))))
     unfolding first_answered
     answered zero e h =
@@ -107,7 +107,7 @@ module _ (terms : Terms) (fields : List Field) (d : Configuration) (x : ℕ) (le
 
     by : (t : Bool) → is_whole (C.first_line s) l ≡ t → length l ≤ line_limit
         → Gathered (set d.reader.line have x) (have + 1) l
-        → Follows terms fields (pick t (first_answered d' (first_judged d'.reader l).answer (first_judged d'.reader l).carried) (on d'))
+        → Follows terms fields (pick t (first_answered d' (first_judged d'.reader l)) (on d'))
         (gathered (rules terms) t (C.first_line s) l)
     unfolding rules judge judge_first_line line_judged
     by true e m a =

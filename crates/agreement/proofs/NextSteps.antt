@@ -143,7 +143,7 @@ module _ (terms : Terms) (fields : List Field) (d : Configuration) (x : ℕ) (le
   answered : (fault : ℕ) → line_fault s.size (range s) true (eqb (length b) s.size) (body_with s p b) l ≡ fault
       → SoundSays (unless_broken fault (line_place l) (accept_block s p b l))
       → Follows terms fields
-      (next_answered d' size (unless_fault fault l (good_line (chunk_size l) (carried_by l))).answer (unless_fault fault l (good_line (chunk_size l) (carried_by l))).carried)
+      (next_answered d' size (unless_fault fault l (good_line (chunk_size l) (carried_by l))))
       (ruling (unless_broken fault (line_place l) (accept_block s p b l)))
   unfolding next_answered
   answered zero e h = question_follows e h
@@ -159,7 +159,7 @@ module _ (terms : Terms) (fields : List Field) (d : Configuration) (x : ℕ) (le
 
   by : (t : Bool) → is_whole (C.next_line s p b) l ≡ t → length l ≤ line_limit → Gathered (set d.reader.line have x) (have + 1) l
       → Follows terms fields
-      (pick t (next_answered d' size (next_judged d'.reader size l).answer (next_judged d'.reader size l).carried) (on d'))
+      (pick t (next_answered d' size (next_judged d'.reader size l)) (on d'))
       (gathered (rules terms) t (C.next_line s p b) l)
   unfolding rules judge judge_next_line line_judged
   by true e m a =

@@ -6,8 +6,8 @@ use Prim.Native.Nat.{ℕ, ◌+◌}
 use lib.Dec.{eqb, leb}
 use lib.ListN.{length, take, set, get_or}
 use Rattle.octets.specs.Choice.{pick}
-use Rattle.chunk.specs.declared.judging.LineAnswer.{LineAnswer}
-use Rattle.chunk.specs.declared.judging.LineAnswer.TheVariants as A
+use Rattle.chunk.specs.declared.judging.Line as Chunk
+use Rattle.std.specs.Prelude.{Result, Ok, Err}
 use Rattle.refusals.specs.declared.Refusal.{Refusal}
 use Rattle.ring.specs.Keys.{terms_of}
 use Rattle.ring.specs.declared.KeyRing.{KeyRing}
@@ -54,15 +54,15 @@ unsigned_refuse : (why : Refusal) (count : ℕ) (d : Configuration) → Unsigned
 unfolding refuse
 unsigned_refuse why count d = λ e. refl
 
-unsigned_first : (d : Configuration) (a : LineAnswer) (carried : List ℕ) → Unsigned (first_answered d a carried)
+unsigned_first : (d : Configuration) (judged : Result Chunk.Line Refusal) → Unsigned (first_answered d judged)
 unfolding first_answered
-unsigned_first d (A.Refused n) carried = unsigned_refuse n 0 d
-unsigned_first d (A.Good size) carried = tt
+unsigned_first d (Err why) = unsigned_refuse why 0 d
+unsigned_first d (Ok line) = tt
 
-unsigned_next : (d : Configuration) (size : ℕ) (a : LineAnswer) (signature : List ℕ) → Unsigned (next_answered d size a signature)
+unsigned_next : (d : Configuration) (size : ℕ) (judged : Result Chunk.Line Refusal) → Unsigned (next_answered d size judged)
 unfolding next_answered Line.asked
-unsigned_next d size (A.Refused n) signature = unsigned_refuse n size d
-unsigned_next d size (A.Good next) signature = λ e. absurd (true≢false e)
+unsigned_next d size (Err why) = unsigned_refuse why size d
+unsigned_next d size (Ok line) = λ e. absurd (true≢false e)
 
 unsigned_head : (d : Configuration) (n : ℕ) (a : HeadAnswer) (signature id : List ℕ) → Unsigned (head_answered d n a signature id)
 unfolding head_answered
@@ -83,13 +83,13 @@ unsigned_push terms d (P.Head have) x =
 unsigned_push terms d (P.HeadAsked n) x = λ e. refl
 unsigned_push terms d (P.FirstLine have) x =
     unsigned_pick (leb line_limit have) _ _ (unsigned_refuse _ 0 d)
-    (unsigned_pick (is_whole_line (take (have + 1) (set d.reader.line have x))) _ _ (unsigned_first _ _ _) tt)
+    (unsigned_pick (is_whole_line (take (have + 1) (set d.reader.line have x))) _ _ (unsigned_first _ _) tt)
 unsigned_push terms d (P.Data have size) x = unsigned_pick (leb (length d.block) have) _ _ (unsigned_refuse _ have d) tt
 unsigned_push terms d (P.DataEnd have size) x =
     unsigned_pick (eqb have 0) _ _ tt (unsigned_pick (same (get_or d.reader.line 0 0 ∷ x ∷ []) crlf) _ _ tt (unsigned_refuse _ size d))
 unsigned_push terms d (P.NextLine have size) x =
     unsigned_pick (leb line_limit have) _ _ (unsigned_refuse _ size d)
-    (unsigned_pick (is_whole_line (take (have + 1) (set d.reader.line have x))) _ _ (unsigned_next _ size _ _) tt)
+    (unsigned_pick (is_whole_line (take (have + 1) (set d.reader.line have x))) _ _ (unsigned_next _ size _) tt)
 unsigned_push terms d (P.BlockAsked size next) x = λ e. refl
 unsigned_push terms d (P.Trailer have total) x =
     let text = take (have + 1) (set d.block have x) in

@@ -7,8 +7,8 @@ use Prim.Native.Nat.{ℕ, ◌+◌}
 use lib.Dec.{eqb, leb}
 use lib.ListN.{length, take, set, get_or}
 use Rattle.octets.specs.Choice.{pick}
-use Rattle.chunk.specs.declared.judging.LineAnswer.{LineAnswer}
-use Rattle.chunk.specs.declared.judging.LineAnswer.TheVariants as A
+use Rattle.chunk.specs.declared.judging.Line as Chunk
+use Rattle.std.specs.Prelude.{Result, Ok, Err}
 use Rattle.refusals.specs.declared.Refusal.{Refusal}
 use Rattle.ring.specs.Keys.{terms_of}
 use Rattle.ring.specs.declared.KeyRing.{KeyRing}
@@ -55,15 +55,15 @@ past_refuse : (why : Refusal) (count : ℕ) (d : Configuration) → Past (refuse
 unfolding refuse
 past_refuse why count d = tt
 
-past_first : (d : Configuration) (a : LineAnswer) (carried : List ℕ) → Past (first_answered d a carried)
+past_first : (d : Configuration) (judged : Result Chunk.Line Refusal) → Past (first_answered d judged)
 unfolding first_answered
-past_first d (A.Refused n) carried = past_refuse n 0 d
-past_first d (A.Good size) carried = past_phase (eqb size 0) (P.Trailer 0 0) (P.Data 0 size) refl refl
+past_first d (Err why) = past_refuse why 0 d
+past_first d (Ok line) = past_phase (eqb line.size 0) (P.Trailer 0 0) (P.Data 0 line.size) refl refl
 
-past_next : (d : Configuration) (size : ℕ) (a : LineAnswer) (signature : List ℕ) → Past (next_answered d size a signature)
+past_next : (d : Configuration) (size : ℕ) (judged : Result Chunk.Line Refusal) → Past (next_answered d size judged)
 unfolding next_answered Line.asked
-past_next d size (A.Refused n) signature = past_refuse n size d
-past_next d size (A.Good next) signature = tt
+past_next d size (Err why) = past_refuse why size d
+past_next d size (Ok line) = tt
 
 past_trailer : (d : Configuration) (have total : ℕ) (a : EndAnswer) (signature : List ℕ) → Past (trailer_answered d have total a signature)
 unfolding trailer_answered
@@ -77,7 +77,7 @@ past_push terms d (P.Head have) x e = absurd (true≢false e)
 past_push terms d (P.HeadAsked n) x e = tt
 past_push terms d (P.FirstLine have) x e =
     past_pick (leb line_limit have) _ _ (past_refuse _ 0 d)
-    (past_pick (is_whole_line (take (have + 1) (set d.reader.line have x))) _ _ (past_first _ _ _) refl)
+    (past_pick (is_whole_line (take (have + 1) (set d.reader.line have x))) _ _ (past_first _ _) refl)
 past_push terms d (P.Data have size) x e =
     past_pick (leb (length d.block) have) _ _ (past_refuse _ have d)
     (past_phase (leb size (have + 1)) (P.DataEnd 0 size) (P.Data (have + 1) size) refl refl)
@@ -85,7 +85,7 @@ past_push terms d (P.DataEnd have size) x e =
     past_pick (eqb have 0) _ _ refl (past_pick (same (get_or d.reader.line 0 0 ∷ x ∷ []) crlf) _ _ refl (past_refuse _ size d))
 past_push terms d (P.NextLine have size) x e =
     past_pick (leb line_limit have) _ _ (past_refuse _ size d)
-    (past_pick (is_whole_line (take (have + 1) (set d.reader.line have x))) _ _ (past_next _ size _ _) refl)
+    (past_pick (is_whole_line (take (have + 1) (set d.reader.line have x))) _ _ (past_next _ size _) refl)
 past_push terms d (P.BlockAsked size next) x e = tt
 past_push terms d (P.Trailer have total) x e =
     let text = take (have + 1) (set d.block have x) in

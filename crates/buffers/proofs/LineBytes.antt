@@ -49,14 +49,14 @@ module _ (terms : Terms) (fields : List Field) (d : Configuration) (x : ℕ) (le
 
     first_answered_lem : (fault : ℕ)
         → Left terms
-        (after_next (first_answered first (unless_fault fault l (good_line (chunk_size l) (carried_by l))).answer (unless_fault fault l (good_line (chunk_size l) (carried_by l))).carried))
+        (after_next (first_answered first (unless_fault fault l (good_line (chunk_size l) (carried_by l)))))
         (mark_of (ruling_on (rules terms) effects (C.first_line s) l (unless_broken fault (line_place l) (go (announced s (start_of s l) 0 (chunk_size l)))) b))
     unfolding first_answered pending
     first_answered_lem zero = begins _ b f _
     first_answered_lem (suc n) = refuses first b f _ 0 (C.first_line s) l refl (omega arith)
 
     first_by : (t : Bool)
-        → Left terms (after_next (pick t (first_answered first (first_judged first.reader l).answer (first_judged first.reader l).carried) (on first)))
+        → Left terms (after_next (pick t (first_answered first (first_judged first.reader l)) (on first)))
         (mark_of (gathered_on (rules terms) effects t (C.first_line s) l b))
     unfolding rules judge judge_first_line line_judged with_section
     first_by true =
@@ -95,7 +95,7 @@ module _ (terms : Terms) (fields : List Field) (d : Configuration) (x : ℕ) (le
 
     next_answered_lem : (fault : ℕ)
         → Left terms
-        (after_next (next_answered next size (unless_fault fault l (good_line (chunk_size l) (carried_by l))).answer (unless_fault fault l (good_line (chunk_size l) (carried_by l))).carried))
+        (after_next (next_answered next size (unless_fault fault l (good_line (chunk_size l) (carried_by l)))))
         (mark_of (ruling_on (rules terms) effects (C.next_line s p block) l (unless_broken fault (line_place l) (accept_block s p block l)) b))
     unfolding next_answered pending
     next_answered_lem zero = asked_left
@@ -103,7 +103,7 @@ module _ (terms : Terms) (fields : List Field) (d : Configuration) (x : ℕ) (le
 
     next_by : (t : Bool)
         → Left terms
-        (after_next (pick t (next_answered next size (next_judged next.reader size l).answer (next_judged next.reader size l).carried) (on next)))
+        (after_next (pick t (next_answered next size (next_judged next.reader size l)) (on next)))
         (mark_of (gathered_on (rules terms) effects t (C.next_line s p block) l b))
     unfolding rules judge judge_next_line line_judged with_section
     next_by true =

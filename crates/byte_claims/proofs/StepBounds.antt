@@ -11,8 +11,9 @@ use lib.ListN.{length, take, set, get_or}
 use Rattle.octets.specs.Choice.{pick}
 use Rattle.blocks.specs.Writing.{message_written, at_front}
 use Rattle.number.specs.Writing.{written}
-use Rattle.chunk.specs.declared.judging.LineAnswer.{LineAnswer}
-use Rattle.chunk.specs.declared.judging.LineAnswer.TheVariants as A
+use Rattle.chunk.specs.declared.judging.Line as Chunk
+use Rattle.refusals.specs.declared.Refusal.{Refusal}
+use Rattle.std.specs.Prelude.{Result, Ok, Err}
 use Rattle.stream.specs.Blocks.{is_whole_line}
 use Rattle.stream.specs.Bytes.{same}
 use Rattle.stream.specs.Limits.{line_limit}
@@ -47,15 +48,15 @@ count_fits m out = by (leb (length m) (length out)) refl
     by true e = leb-true (length m) (length out) e
     by false e = omega arith
 
-named_first : (d e : Configuration) (a : LineAnswer) (carried : List ℕ) → NamedNext (first_answered d a carried) e
+named_first : (d e : Configuration) (judged : Result Chunk.Line Refusal) → NamedNext (first_answered d judged) e
 unfolding first_answered
-named_first d e (A.Refused n) carried = named_refuse n 0 d e
-named_first d e (A.Good size) carried = tt
+named_first d e (Err why) = named_refuse why 0 d e
+named_first d e (Ok line) = tt
 
-named_next : (d e : Configuration) (size : ℕ) (a : LineAnswer) (signature : List ℕ) → e.question ≡ d.question → NamedNext (next_answered d size a signature) e
+named_next : (d e : Configuration) (size : ℕ) (judged : Result Chunk.Line Refusal) → e.question ≡ d.question → NamedNext (next_answered d size judged) e
 unfolding next_answered Line.asked message_now
-named_next d e size (A.Refused n) signature p = named_refuse n size d e
-named_next d e size (A.Good next) signature p = rw p (count_fits _ d.question)
+named_next d e size (Err why) p = named_refuse why size d e
+named_next d e size (Ok line) p = rw p (count_fits _ d.question)
 
 -- ---- the trailer
 
@@ -91,13 +92,13 @@ named_push terms d (P.Head have) x = head_named terms d have x
 named_push terms d (P.HeadAsked n) x = tt
 named_push terms d (P.FirstLine have) x =
     named_pick d (leb line_limit have) _ _ (named_refuse _ 0 d d)
-    (named_pick d (is_whole_line (take (have + 1) (set d.reader.line have x))) _ _ (named_first _ d _ _) tt)
+    (named_pick d (is_whole_line (take (have + 1) (set d.reader.line have x))) _ _ (named_first _ d _) tt)
 named_push terms d (P.Data have size) x = named_pick d (leb (length d.block) have) _ _ (named_refuse _ have d d) tt
 named_push terms d (P.DataEnd have size) x =
     named_pick d (eqb have 0) _ _ tt (named_pick d (same (get_or d.reader.line 0 0 ∷ x ∷ []) crlf) _ _ tt (named_refuse _ size d d))
 named_push terms d (P.NextLine have size) x =
     named_pick d (leb line_limit have) _ _ (named_refuse _ size d d)
-    (named_pick d (is_whole_line (take (have + 1) (set d.reader.line have x))) _ _ (named_next _ d size _ _ refl) tt)
+    (named_pick d (is_whole_line (take (have + 1) (set d.reader.line have x))) _ _ (named_next _ d size _ refl) tt)
 named_push terms d (P.BlockAsked size next) x = tt
 named_push terms d (P.Trailer have total) x =
     let text = take (have + 1) (set d.block have x) in
