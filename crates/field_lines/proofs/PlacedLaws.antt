@@ -1,6 +1,6 @@
 -- The lines of a text with their places, one after the other. Assumes nothing.
-use mathlib.Core.Path.{◌≡◌, refl, ap}
-use mathlib.Core.List.{List, [], ◌∷◌}
+use mathlib.Core.Path.{◌≡◌, refl, sym, ap, ◌∙◌}
+use mathlib.Core.List.{List, [], ◌∷◌, map}
 use Prim.Native.Nat.{ℕ, ◌+◌, ◌-◌, ◌≤◌, ◌<◌}
 use native.Mathlib.Omega.{arith}
 use lib.ListN.{length, take, drop, length-take, length-drop}
@@ -53,3 +53,24 @@ pub lines_given : (l : Lines) (s : List ℕ) (i : ℕ) → l.text.now ≡ s → 
 lines_given l s i p q =
     let e : lines_left l ≡ placed_lines s i = rw (p, q) in
     rw (← e) (YieldsList-from_shown GivesLine line_item lines_left (λ a b g. ap length g.first.0) (λ a x b g. g.first) l)
+
+-- ---- what a turn over them learns of the lines
+
+lines_placed : (i : ℕ) (ls : List (List ℕ)) → map (λ (p : ℕ × List ℕ). p.1) (placed_from i ls) ≡ ls
+unfolding placed_from
+lines_placed i [] = refl
+lines_placed i (l ∷ ls) = ap (λ (ks : List (List ℕ)). l ∷ ks) (lines_placed (i + length l + 2) ls)
+
+abbrev pub lines_in : Lines → List (List ℕ)
+lines_in l = text_lines (drop l.next l.text.now)
+
+module _ (l m : Lines) where
+  in_lines : (k : Lines) → map (λ (p : ℕ × List ℕ). p.1) (lines_left k) ≡ lines_in k
+  unfolding placed_lines
+  in_lines k = lines_placed k.next (lines_in k)
+
+  pub line_given : (x : ℕ × Bor (List ℕ)) → GivesLine l (Some x) m → lines_in l ≡ x.1.now ∷ lines_in m
+  line_given x g = sym (in_lines l) ∙ ap (map (λ (p : ℕ × List ℕ). p.1)) g.first ∙ ap (λ (ks : List (List ℕ)). x.1.now ∷ ks) (in_lines m)
+
+  pub no_line_given : GivesLine l None m → lines_in l ≡ []
+  no_line_given g = sym (in_lines l) ∙ ap (map (λ (p : ℕ × List ℕ). p.1)) g.first.0

@@ -1,53 +1,36 @@
 -- A table that is filled from its front, entry after entry. Assumes nothing.
-use mathlib.Core.Path.{◌≡◌, refl, sym, ap, ◌∙◌}
+use mathlib.Core.Path.{◌≡◌, refl, ap, ◌∙◌}
 use mathlib.Core.Bool.{Bool, true, false}
 use mathlib.Core.List.{List, [], ◌∷◌, ◌++◌}
 use Prim.Native.Nat.{ℕ, zero, suc, ◌+◌, ◌≤◌, ◌<◌, min}
-use native.Mathlib.Nat.{add-zero, zero-add}
-use native.Mathlib.Numerals.{add-one}
 use native.Mathlib.Omega.{arith}
 use borrow.Author.Tests.{eqb-true, eqb-false}
 use lib.Dec.{eqb}
-use lib.ListN.{length, get_or, set, replicate}
+use lib.ListN.{length, get_or, set, replicate, length-map, length-take}
 use lib.Seq.{get_or-set_same, get_or-set_other}
 use Rattle.stream.specs.Limits.{field_limit}
 use Rattle.places.specs.Place.{part_of}
-use Rattle.places.proofs.PlaceLaws.{part_moved, part_length}
+use Rattle.places.proofs.PlaceLaws.{part_moved}
 use Rattle.field_lines.specs.Entries.{no_entry, entry_field, Within}
-use Rattle.field_lines.specs.Reading.{answer, ReadsField}
 use Rattle.field_lines.specs.declared.entry.Entry.{Entry}
-use Rattle.field_lines.specs.declared.line.FieldLine.{FieldLine}
-use Rattle.fields.specs.Table.{fields_from, fields_in}
+use Rattle.std.proofs.lemmas.List.{take_more_set, map-append}
+use Rattle.fields.specs.Table.{fields_in, used_entries}
 use Rattle.fields.specs.declared.table.Fields.{Fields}
 
 -- ---- the fields, where one entry more is set
 
-pub from_length : (text : List ℕ) (es : List Entry) (i k : ℕ) → length (fields_from text es i k) ≡ k
-unfolding fields_from
-from_length text es i zero = refl
-from_length text es i (suc k) = ap suc (from_length text es (i + 1) k)
-
--- what is set past them does not change them
-from_set : (text : List ℕ) (es : List Entry) (e : Entry) (p i k : ℕ) → i + k ≤ p → fields_from text (set es p e) i k ≡ fields_from text es i k
-unfolding fields_from
-from_set text es e p i zero h = refl
-from_set text es e p i (suc k) h = rw (get_or-set_other es p i e no_entry (λ j. omega arith), from_set text es e p (i + 1) k (omega arith))
-
-from_last : (text : List ℕ) (es : List Entry) (i k : ℕ) → fields_from text es i (suc k) ≡ fields_from text es i k ++ (entry_field text (get_or es (i + k) no_entry) ∷ [])
-unfolding fields_from
-from_last text es i zero = rw (add-zero i)
-from_last text es i (suc k) =
-    let e : i + 1 + k ≡ i + suc k = omega arith in
-    rw (from_last text es (i + 1) k, e)
-
-pub from_more : (text : List ℕ) (es : List Entry) (e : Entry) (k : ℕ) → k < length es → fields_from text (set es k e) 0 (k + 1) ≡ fields_from text es 0 k ++ (entry_field text e ∷ [])
-from_more text es e k h = rw (add-one k, from_last text (set es k e) 0 k, from_set text es e k 0 k (omega arith), zero-add k, get_or-set_same es k e no_entry h)
-
-pub in_from : (text : List ℕ) (f : Fields) → f.count ≤ field_limit → fields_in text f ≡ fields_from text f.entries 0 f.count
+pub fields_length : (text : List ℕ) (f : Fields) → f.count ≤ field_limit → length f.entries ≡ field_limit → length (fields_in text f) ≡ f.count
 unfolding fields_in
-in_from text f h =
-    let e : min f.count field_limit ≡ f.count = omega arith in
-    rw e
+fields_length text f h k = omega (arith, length-map (used_entries f) (entry_field text), length-take (min f.count field_limit) f.entries)
+
+pub fields_more : (text : List ℕ) (n : ℕ) (es : List Entry) (e : Entry) → n < field_limit → length es ≡ field_limit
+    → fields_in text (record { count = n + 1; entries = set es n e }) ≡ fields_in text (record { count = n; entries = es }) ++ (entry_field text e ∷ [])
+unfolding fields_in
+fields_more text n es e h k =
+    let a : min (n + 1) field_limit ≡ n + 1 = omega arith in
+    let b : min n field_limit ≡ n = omega arith in
+    let j : n < length es = omega (arith, k) in
+    rw (a, b, take_more_set es n e j, map-append)
 
 -- ---- entries within a text
 
@@ -72,27 +55,24 @@ set_within size es k e h w x j = go (eqb j k) refl
 -- ---- a line's entry, moved to its place in the text
 
 abbrev pub moved : ℕ → Entry → Entry
-moved i e = record { name_start = i + e.name_start; name_end = i + e.name_end; value_start = i + e.value_start; value_end = i + e.value_end }
+moved i e = record { name = record { start = i + e.name.start; end = i + e.name.end }; value = record { start = i + e.value.start; end = i + e.value.end } }
 
-moved_field : (text : List ℕ) (i n : ℕ) (e : Entry) → n ≤ length text → Within (length (part_of text i n)) e → entry_field (part_of text i n) e ≡ entry_field text (moved i e)
-unfolding entry_field
-moved_field text i n e k w =
-    let l = part_length text i n k in
-    rw (
-      part_moved text i n e.name_start e.name_end w.name_ordered (omega (arith, w.name_within)),
-      part_moved text i n e.value_start e.value_end w.value_ordered (omega (arith, w.value_within)),
-    )
-
-pub reads_moved : (text : List ℕ) (i n : ℕ) (r : FieldLine) → i ≤ n → n ≤ length text → ReadsField (part_of text i n) (part_of text i n) r → ReadsField text (part_of text i n) (record { good = r.good; entry = moved i r.entry })
-reads_moved text i n r h k x =
-    let w = x.within in
-    let l = part_length text i n k in
-    record {
-      meaning = ap (answer r.good) (sym (moved_field text i n r.entry k w)) ∙ x.meaning;
-      within = record {
+module _ (text line : List ℕ) (i : ℕ) (e : Entry) (h : i + length line ≤ length text) where
+  pub moved_within : Within (length line) e → Within (length text) (moved i e)
+  moved_within w =
+      record {
         name_ordered = omega (arith, w.name_ordered);
         name_within = omega (arith, w.name_within);
         value_ordered = omega (arith, w.value_ordered);
         value_within = omega (arith, w.value_within);
-      };
-    }
+      }
+
+  pub moved_field : line ≡ part_of text i (i + length line) → Within (length line) e → entry_field line e ≡ entry_field text (moved i e)
+  unfolding entry_field
+  moved_field q w =
+      let n = i + length line in
+      ap (λ (l : List ℕ). entry_field l e) q
+      ∙ rw (
+        part_moved text i n e.name.start e.name.end w.name_ordered (omega (arith, w.name_within)),
+        part_moved text i n e.value.start e.value.end w.value_ordered (omega (arith, w.value_within)),
+      )

@@ -1,27 +1,29 @@
 -- The lines of a text, read one after the other. Assumes nothing.
-use mathlib.Core.Path.{◌≡◌, sym, ◌∙◌}
-use mathlib.Core.Bool.{Bool, true, false, not, ◌&&◌, ◌||◌}
+use mathlib.Core.Path.{Path, ◌≡◌, sym, ap, ◌∙◌}
+use mathlib.Core.Bool.{true, false, ◌&&◌}
 use mathlib.Core.List.{List, [], ◌∷◌, ◌++◌, map, append_assoc, append-nil}
-use mathlib.Core.Option.{Option}
+use Rattle.std.specs.Prelude.{Option, None, Some}
 use Prim.Native.Nat.{ℕ, suc, ◌+◌, ◌≤◌, ◌<◌}
 use native.Mathlib.Nat.{add-zero, zero-add}
 use native.Mathlib.Omega.{arith}
-use borrow.Author.Tests.{eqb-true, eqb-false, le-leb, lt-leb, not-false}
-use lib.Dec.{eqb, leb}
-use lib.ListN.{length, set, drop, length-append}
+use borrow.Author.Tests.{le-leb, lt-leb}
+use lib.Dec.{leb}
+use lib.ListN.{length, set, length-append, length-set, length-replicate, replicate, drop}
 use Rattle.stream.specs.Limits.{field_limit}
 use Rattle.stream.specs.Lines.{Field, is_field_line, field_of, are_field_lines, fields_of, text_lines}
-use Rattle.stream.proofs.Truth.{left_fails, right_fails}
-use Rattle.text.specs.Line.{line_length}
-use Rattle.text.proofs.LineLaws.{text_first}
 use Rattle.text.proofs.SameLaws.{both_false}
-use Rattle.places.specs.Place.{part_of}
 use Rattle.field_lines.specs.Reading.{answer, ReadsField}
 use Rattle.field_lines.specs.declared.entry.Entry.{Entry}
-use Rattle.field_lines.specs.declared.line.FieldLine.{FieldLine}
-use Rattle.field_lines.proofs.AnswerLaws.{line_good, line_field}
-use Rattle.fields.specs.Table.{fields_from}
-use Rattle.fields.proofs.FillLaws.{from_length, from_more}
+use Rattle.field_lines.specs.Entries.{no_entry}
+use Rattle.std.specs.Borrow.{Bor}
+use Rattle.field_lines.specs.Placed.{GivesLine}
+use Rattle.field_lines.specs.declared.lines.Lines.{Lines}
+use Rattle.field_lines.proofs.PlacedLaws.{lines_in, line_given, no_line_given}
+use Rattle.field_lines.proofs.AnswerLaws.{line_tells}
+use Rattle.fields.specs.Answers.{ReadsFields}
+use Rattle.fields.specs.Table.{fields_in}
+use Rattle.fields.specs.declared.table.Fields.{Fields}
+use Rattle.fields.proofs.FillLaws.{fields_length, fields_more, AllWithin, empty_within, set_within, moved, moved_within, moved_field}
 
 -- ---- the fields of the lines that are left, after fields that were read
 
@@ -51,25 +53,58 @@ module _ (fs : List Field) (l : List ℕ) (ls : List (List ℕ)) where
       let n : length fs + suc (length ls) ≡ length (fs ++ (field_of l ∷ [])) + length ls = omega (arith, length-append fs (field_of l ∷ [])) in
       rw (e, n, append_assoc fs (field_of l ∷ []) (map field_of ls))
 
--- a turn: a line from i to e, what was read of it, and k entries in the table
-module _ (s : List ℕ) (i e : ℕ) (b : i < length s) (f : e ≡ i + line_length (drop i s)) (h : i < e) (r : FieldLine) (x : ReadsField s (part_of s i e) r) (es : List Entry) (k : ℕ) where
-  first-is : text_lines (drop i s) ≡ part_of s i e ∷ text_lines (drop (e + 2) s)
-  unfolding part_of
-  first-is = text_first s i e b f h
+-- ---- the table so far: its fields, before those of the lines that are left, are the fields of all lines
 
-  pub turn_bad : (gs : List Field) → (not r.good || eqb k field_limit) ≡ true → read_on (fields_from s es 0 k) (text_lines (drop i s)) ≡ answer false gs
-  turn_bad gs t = rw first-is (go r.good (line_good x) t)
-    where
-      go : (g : Bool) → g ≡ is_field_line (part_of s i e) → (not g || eqb k field_limit) ≡ true → read_on (fields_from s es 0 k) (part_of s i e ∷ text_lines (drop (e + 2) s)) ≡ answer false gs
-      go true q u = read_over (fields_from s es 0 k) (part_of s i e) (text_lines (drop (e + 2) s)) gs (omega (arith, eqb-true k field_limit u, from_length s es 0 k))
-      go false q u = read_bad (fields_from s es 0 k) (part_of s i e) (text_lines (drop (e + 2) s)) gs (sym q)
+pub record Filled (text : List ℕ) (all : List (List ℕ)) (f : Fields) (left : List (List ℕ)) : Type 0 where
+  pub room : f.count ≤ field_limit
+  pub whole : length f.entries ≡ field_limit
+  pub within : AllWithin (length text) f.entries
+  pub makes : read_on [] all ≡ read_on (fields_in text f) left
 
-  module _ (t : (not r.good || eqb k field_limit) ≡ false) where
-    good : r.good ≡ true
-    good = not-false r.good (left_fails (not r.good) (eqb k field_limit) t)
+module _ (text : List ℕ) (from : ℕ) where
+  abbrev all : List (List ℕ)
+  all = text_lines (drop from text)
 
-    pub turn_room : k ≤ field_limit → k < field_limit
-    turn_room j = omega (arith, eqb-false k field_limit (right_fails (not r.good) (eqb k field_limit) t))
+  pub filled_none : (e : Entry) → e ≡ no_entry → (l : Lines) → l.text.now ≡ text → l.next ≡ from → (l.text.now ≡ text) × Filled text all (record { count = 0; entries = replicate field_limit e }) (lines_in l)
+  unfolding fields_in
+  filled_none e h l t n = (t, record { room = omega arith; whole = length-replicate field_limit e; within = empty_within (length text) field_limit e h; makes = rw (t, n) })
 
-    pub turn_on : k < length es → read_on (fields_from s es 0 k) (text_lines (drop i s)) ≡ read_on (fields_from s (set es k r.entry) 0 (k + 1)) (text_lines (drop (e + 2) s))
-    turn_on j = rw (first-is, from_more s es r.entry k j, line_field x good) (read_next (fields_from s es 0 k) (part_of s i e) (text_lines (drop (e + 2) s)) (sym (line_good x) ∙ good))
+  module _ (f : Fields) (l m : Lines) (x : Filled text all f (lines_in l)) where
+    pub filled_all : GivesLine l None m → ReadsFields text all (record { good = true; fields = f })
+    filled_all g =
+        let n : length (fields_in text f) ≤ field_limit = omega (arith, fields_length text f x.room x.whole, x.room) in
+        record { meaning = sym (read_all all ∙ x.makes ∙ rw (no_line_given l m g) (read_end (fields_in text f) n)); within = x.within }
+
+    -- a turn: a line, and those after it
+    module _ (start : ℕ) (line : Bor (List ℕ)) (g : GivesLine l (Some (start, line)) m) where
+      pub filled_bad : ReadsField line.now line.now None → ReadsFields text all (record { good = false; fields = f })
+      filled_bad y =
+          record { meaning = sym (read_all all ∙ x.makes ∙ rw (line_given l m (start, line) g) (read_bad (fields_in text f) line.now (lines_in m) (fields_in text f) (line_tells None y))); within = x.within }
+
+      pub filled_over : f.count ≡ field_limit → ReadsFields text all (record { good = false; fields = f })
+      filled_over h =
+          let n : field_limit ≤ length (fields_in text f) = omega (arith, fields_length text f x.room x.whole) in
+          record { meaning = sym (read_all all ∙ x.makes ∙ rw (line_given l m (start, line) g) (read_over (fields_in text f) line.now (lines_in m) (fields_in text f) n)); within = x.within }
+
+      module _ (e : Entry) (y : ReadsField line.now line.now (Some e)) (t : l.text.now ≡ text) where
+        pub filled_on : (f.count ≡ field_limit → ⊥) → (m.text.now ≡ text) × Filled text all (record { count = f.count + 1; entries = set f.entries f.count (moved start e) }) (lines_in m)
+        filled_on h =
+            let p = line_tells (Some e) y in
+            let w = rw t at g.lies.0 in
+            let q = rw t at g.lies.1 in
+            let r : f.count < field_limit = omega (arith, h, x.room) in
+            let j : f.count < length f.entries = omega (arith, r, x.whole) in
+            let d : Path (List (List ℕ)) (lines_in l) (line.now ∷ lines_in m) = line_given l m (start, line) g in (
+              g.same_text ∙ t,
+              record {
+                room = omega (arith, r);
+                whole = length-set f.entries f.count (moved start e) ∙ x.whole;
+                within = set_within (length text) f.entries f.count (moved start e) j x.within (moved_within text line.now start e w y.within);
+                makes =
+                    x.makes
+                    ∙ ap (read_on (fields_in text f)) d
+                    ∙ read_next (fields_in text f) line.now (lines_in m) p.0
+                    ∙ ap (λ (d : Field). read_on (fields_in text f ++ (d ∷ [])) (lines_in m)) (sym p.1 ∙ moved_field text line.now start e w q y.within)
+                    ∙ ap (λ (fs : List Field). read_on fs (lines_in m)) (sym (fields_more text f.count f.entries (moved start e) r x.whole));
+              },
+            )

@@ -1,99 +1,95 @@
--- Tables of parts of a text. Assumes nothing.
-use mathlib.Core.Path.{◌≡◌, refl, sym, ◌∙◌}
+-- Fields looked up by their names, among the entries that stand for them. Assumes nothing.
+use mathlib.Core.Path.{◌≡◌, refl, ap}
 use mathlib.Core.Bool.{Bool, true, false, ◌&&◌, ◌||◌}
-use mathlib.Core.List.{List, [], ◌∷◌}
-use Prim.Native.Nat.{ℕ, suc, ◌+◌, ◌-◌, ◌≤◌, ◌<◌, min}
-use native.Mathlib.Nat.{sub-zero}
-use native.Mathlib.Omega.{arith}
-use lib.ListN.{get_or}
+use mathlib.Core.List.{List, [], ◌∷◌, map}
+use Prim.Native.Nat.{ℕ}
+use lib.ListN.{length}
+use Rattle.std.specs.List.{filter, find, list_any}
+use Rattle.std.specs.Prelude.{Option, None, Some, MatchOption}
+use Rattle.std.specs.Borrow.{Bor}
+use Rattle.std.specs.Option.{option_map}
 use Rattle.stream.specs.Bytes.{same_name}
-use Rattle.stream.specs.Fields.{among, is_protected, is_protected_doubled, names_of, values_of}
-use Rattle.stream.specs.Limits.{field_limit}
-use Rattle.text.proofs.SameLaws.{both_false}
-use Rattle.field_lines.specs.Entries.{entry_name, entry_value, entry_field, no_entry}
+use Rattle.stream.specs.Fields.{among, count_of, has_field, is_protected, is_protected_doubled, names_of, value_of, values_of}
+use Rattle.field_lines.specs.Entries.{entry_name, entry_value, entry_field}
 use Rattle.field_lines.specs.declared.entry.Entry.{Entry}
-use Rattle.fields.specs.Table.{fields_from, fields_in}
-use Rattle.fields.specs.declared.table.Fields.{Fields}
 
--- the name is protected, and one of those after it
-abbrev pub is_refused : List ℕ → List (List ℕ) → Bool
-is_refused n ns = is_protected n && among n ns
+module _ (text name : List ℕ) where
+  abbrev pub is_named : Entry → Bool
+  is_named e = same_name name (entry_name text e)
 
--- ---- the fields of a table from entry i on, of n
+  abbrev pub values : List Entry → List (List ℕ)
+  values es = values_of name (map (entry_field text) es)
 
-abbrev pub names_from : List ℕ → List Entry → ℕ → ℕ → List (List ℕ)
-names_from text es n i = names_of (fields_from text es i (n - i))
+  pub any_named : (es : List Entry) → list_any is_named es ≡ among name (names_of (map (entry_field text) es))
+  unfolding among names_of entry_field
+  any_named [] = refl
+  any_named (e ∷ es) = ap (λ (t : Bool). is_named e || t) (any_named es)
 
-abbrev pub values_from : List ℕ → List ℕ → List Entry → ℕ → ℕ → List (List ℕ)
-values_from name text es n i = values_of name (fields_from text es i (n - i))
+  -- ---- the values of that name, entry by entry
 
-pub all_from : (text : List ℕ) (f : Fields) (n : ℕ) → n ≡ min f.count field_limit → fields_in text f ≡ fields_from text f.entries 0 (n - 0)
-unfolding fields_in
-all_from text f n e = rw (e, sub-zero)
-
-module _ (text : List ℕ) (es : List Entry) (n i : ℕ) where
-  pub from_on : i < n → fields_from text es i (n - i) ≡ entry_field text (get_or es i no_entry) ∷ fields_from text es (i + 1) (n - (i + 1))
-  unfolding fields_from
-  from_on h = let e : n - i ≡ suc (n - (i + 1)) = omega arith in rw e
-
-  pub from_out : n ≤ i → fields_from text es i (n - i) ≡ []
-  unfolding fields_from
-  from_out h = let e : n - i ≡ 0 = omega arith in rw e
-
-  -- ---- the search for two of one protected name
-
-  pub rows_on : i < n → is_protected_doubled (names_from text es n i) ≡ is_refused (entry_name text (get_or es i no_entry)) (names_from text es n (i + 1)) || is_protected_doubled (names_from text es n (i + 1))
-  unfolding entry_field names_of is_protected_doubled
-  rows_on h = rw (from_on h)
-
-  pub rows_out : n ≤ i → is_protected_doubled (names_from text es n i) ≡ false
-  unfolding names_of is_protected_doubled
-  rows_out h = rw (from_out h)
-
-  module _ (name : List ℕ) where
-    among_on : i < n → among name (names_from text es n i) ≡ same_name name (entry_name text (get_or es i no_entry)) || among name (names_from text es n (i + 1))
-    unfolding entry_field names_of among
-    among_on h = rw (from_on h)
-
-    pub among_hit : i < n → same_name name (entry_name text (get_or es i no_entry)) ≡ true → among name (names_from text es n i) ≡ true
-    among_hit h t = among_on h ∙ rw t
-
-    pub among_next : i < n → same_name name (entry_name text (get_or es i no_entry)) ≡ false → among name (names_from text es n i) ≡ among name (names_from text es n (i + 1))
-    among_next h t = among_on h ∙ rw t
-
-    pub among_out : n ≤ i → among name (names_from text es n i) ≡ false
-    unfolding names_of among
-    among_out h = rw (from_out h)
-
-    -- r is whether the pair with entry i is refused
-
-    pub pair_hit : i < n → (r : Bool) → r ≡ is_protected name && same_name name (entry_name text (get_or es i no_entry)) → r ≡ true → is_refused name (names_from text es n i) ≡ true
-    pair_hit h r q t = go (is_protected name) (sym q ∙ t)
-      where
-        go : (p : Bool) → p && same_name name (entry_name text (get_or es i no_entry)) ≡ true → p && among name (names_from text es n i) ≡ true
-        go true e = among_hit h e
-        go false e = e
-
-    pub pair_next : i < n → (r : Bool) → r ≡ is_protected name && same_name name (entry_name text (get_or es i no_entry)) → r ≡ false → is_refused name (names_from text es n i) ≡ is_refused name (names_from text es n (i + 1))
-    pair_next h r q t = go (is_protected name) (sym q ∙ t)
-      where
-        go : (p : Bool) → p && same_name name (entry_name text (get_or es i no_entry)) ≡ false → p && among name (names_from text es n i) ≡ p && among name (names_from text es n (i + 1))
-        go true e = among_next h e
-        go false e = refl
-
-    pub pair_out : n ≤ i → is_refused name (names_from text es n i) ≡ false
-    pair_out h = rw (among_out h) (both_false (is_protected name))
-
-    -- ---- the values of a name
-
-    pub values_hit : i < n → same_name name (entry_name text (get_or es i no_entry)) ≡ true → values_from name text es n i ≡ entry_value text (get_or es i no_entry) ∷ values_from name text es n (i + 1)
+  module _ (e : Entry) (es : List Entry) where
+    pub values_hit : is_named e ≡ true → values (e ∷ es) ≡ entry_value text e ∷ values es
     unfolding values_of entry_field
-    values_hit h t = rw (from_on h, values_of, t)
+    values_hit t = rw (values_of, t)
 
-    pub values_next : i < n → same_name name (entry_name text (get_or es i no_entry)) ≡ false → values_from name text es n i ≡ values_from name text es n (i + 1)
+    pub values_next : is_named e ≡ false → values (e ∷ es) ≡ values es
     unfolding values_of entry_field
-    values_next h t = rw (from_on h, values_of, t)
+    values_next t = rw (values_of, t)
 
-    pub values_out : n ≤ i → values_from name text es n i ≡ []
-    unfolding values_of
-    values_out h = rw (from_out h)
+  pub count_named : (es : List Entry) → length (filter is_named es) ≡ count_of name (map (entry_field text) es)
+  unfolding values_of
+  count_named [] = refl
+  count_named (e ∷ es) = go (is_named e) refl (count_named es)
+    where
+      go : (t : Bool) → is_named e ≡ t → length (filter is_named es) ≡ length (values es) → length (filter is_named (e ∷ es)) ≡ length (values (e ∷ es))
+      go true t k = rw (values_hit e es t, t, k)
+      go false t k = rw (values_next e es t, t, k)
+
+  -- ---- the first of that name
+
+  abbrev pub Found : List Entry → Entry → Type 0
+  Found es e = (has_field name (map (entry_field text) es) ≡ true) × (value_of name (map (entry_field text) es) ≡ entry_value text e)
+
+  abbrev pub Missed : List Entry → Type 0
+  Missed es = (has_field name (map (entry_field text) es) ≡ false) × (value_of name (map (entry_field text) es) ≡ [])
+
+  -- an entry of another name in front changes nothing
+  found_on : (e : Entry) (es : List Entry) → is_named e ≡ false → (r : Option Entry) → MatchOption r (Missed es) (Found es) → MatchOption r (Missed (e ∷ es)) (Found (e ∷ es))
+  unfolding has_field among names_of value_of entry_field
+  found_on e es t None k = (rw t k.0, rw (value_of, t) k.1)
+  found_on e es t (Some x) k = (rw t k.0, rw (value_of, t) k.1)
+
+  missed_all : Missed []
+  unfolding has_field among names_of value_of
+  missed_all = (refl, refl)
+
+  found_first : (e : Entry) (es : List Entry) → is_named e ≡ true → Found (e ∷ es) e
+  unfolding has_field among names_of value_of entry_field
+  found_first e es t = (rw t, rw (value_of, t))
+
+  find_named : (es : List Entry) → MatchOption (find is_named es) (Missed es) (Found es)
+  find_named [] = missed_all
+  find_named (e ∷ es) = go (is_named e) refl (find_named es)
+    where
+      go : (t : Bool) → is_named e ≡ t → MatchOption (find is_named es) (Missed es) (Found es) → MatchOption (find is_named (e ∷ es)) (Missed (e ∷ es)) (Found (e ∷ es))
+      go true t k = rw t (found_first e es t)
+      go false t k = rw t (found_on e es t (find is_named es) k)
+
+  -- what a search among them gave
+  pub found_is : (es : List Entry) (r : Option (Bor Entry)) → option_map (λ x. x.now) r ≡ find is_named es → MatchOption r (Missed es) (λ x. Found es x.now)
+  found_is es None e = rw (← e) at (find_named es)
+  found_is es (Some x) e = rw (← e) at (find_named es)
+
+-- ---- pairs of one protected name
+
+module _ (text : List ℕ) where
+  abbrev pub doubled : List Entry → Bool
+  doubled es = is_protected_doubled (names_of (map (entry_field text) es))
+
+  pub none_doubled : doubled [] ≡ false
+  unfolding is_protected_doubled names_of
+  none_doubled = refl
+
+  pub doubled_on : (e : Entry) (es : List Entry) (t : Bool) → t ≡ is_protected (entry_name text e) && among (entry_name text e) (names_of (map (entry_field text) es)) → doubled (e ∷ es) ≡ t || doubled es
+  unfolding is_protected_doubled names_of entry_field
+  doubled_on e es t h = rw h

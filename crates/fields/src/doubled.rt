@@ -1,11 +1,10 @@
 // Whether two fields of a head have one name that must not be there twice.
-ghost use Rattle.std.specs.Prelude.{◌&&◌, ◌≡◌};
-ghost use Rattle.stream.specs.Bytes.{same_name};
-ghost use Rattle.stream.specs.Fields.{is_protected, is_protected_doubled, names_of};
-ghost use Rattle.field_lines.specs.Entries.{entry_name};
+ghost use Rattle.std.specs.Prelude.{◌&&◌, ◌≡◌, map};
+ghost use Rattle.stream.specs.Fields.{among, is_protected, is_protected_doubled, names_of};
+ghost use Rattle.field_lines.specs.Entries.{entry_field, entry_name};
 ghost use Rattle.fields.specs.Table.{fields_in};
 
-use crate::table;
+use crate::lookup;
 use crate::table::Fields;
 use field_lines::Entry;
 
@@ -19,33 +18,24 @@ fn is_protected(name: &[u8]) -> bool
     ours | (sized | coded)
 }
 
-// Most names are not protected, and then there is nothing to compare.
-fn is_refused_pair(text: &[u8], a: Entry, b: Entry) -> bool
-    ensures { result ≡ is_protected (entry_name text.now a) && same_name (entry_name text.now a) (entry_name text.now b) }
+// Whether a field's name is protected, and that of one of the fields after it. Most names are not, and then there is nothing to compare.
+fn is_refused(text: &[u8], field: Entry, others: &[Entry]) -> bool
+    ensures { result ≡ is_protected (entry_name text.now field) && among (entry_name text.now field) (names_of (map (entry_field text.now) others.now)) }
 {
-    let name = places::part(text, a.name_start, a.name_end);
-    if !is_protected(name) {
-        return false;
-    }
-    text::same_name(name, places::part(text, b.name_start, b.name_end))
+    let name = field.name_in(text);
+    is_protected(name) && lookup::is_among(text, name, others)
 }
 
 // Every pair of names is compared, up to the first that is refused.
 pub fn is_doubled(text: &[u8], f: Fields) -> bool
     ensures { result ≡ is_protected_doubled (names_of (fields_in text.now f)) }
 {
-    let n = table::count(f);
-    let mut i = 0;
-    'pairs: while i < n {
-        let mut j = i + 1;
-        while j < n {
-            if is_refused_pair(text, f.entries[i], f.entries[j]) {
-                break 'pairs;
-            }
-            j += 1;
+    let mut left = f.used();
+    'fields: while let Some((first, others)) = left.split_first() {
+        if is_refused(text, *first, others) {
+            return true;
         }
-        i += 1;
+        left = others;
     }
-    // Short of n where a pair ended the search.
-    i < n
+    false
 }

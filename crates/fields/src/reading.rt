@@ -1,13 +1,12 @@
 // The field lines of a head, as a table.
-ghost use Rattle.std.specs.Prelude.{◌≤◌, drop, length};
+ghost use Rattle.std.specs.Prelude.{◌≤◌, ◌<◌, ◌+◌, ◌^◌, ◌≡◌, drop, length};
 ghost use Rattle.stream.specs.Lines.{text_lines};
-ghost use Rattle.field_lines.specs.Reading.{ReadsField};
 ghost use Rattle.fields.specs.Answers.{ReadsFields};
-ghost use Rattle.places.specs.Place.{part_of};
 
 use crate::table::Fields;
-use field_lines::{Entry, FieldLine};
+use field_lines::Entry;
 use limits::FIELD_LIMIT;
+use places::Span;
 
 // Whether all lines are field lines, and no more than a head may have; and their table.
 #[derive(Clone, Copy)]
@@ -16,21 +15,14 @@ pub struct FieldsRead {
     pub fields: Fields,
 }
 
-// The line from `start` up to `end`, with its places in the whole text.
-fn field_at(text: &[u8], start: usize, end: usize) -> FieldLine
-    requires { (start ≤ end) × (end ≤ length text.now) }
-    ensures { ReadsField text.now (part_of text.now start end) result }
+// A part of a line that begins at `start`, by its places in the whole text.
+fn moved(part: Span, start: usize) -> Span
+    requires { (part.start ≤ part.end) × (start + part.end < 2 ^ 64) }
+    ensures { result ≡ record { start = start + part.start; end = start + part.end } }
 {
-    let r = field_lines::field_line(&text[start..end]);
-    let e = r.entry;
-    FieldLine {
-        good: r.good,
-        entry: Entry {
-            name_start: start + e.name_start,
-            name_end: start + e.name_end,
-            value_start: start + e.value_start,
-            value_end: start + e.value_end,
-        },
+    Span {
+        start: start + part.start,
+        end: start + part.end,
     }
 }
 
@@ -38,29 +30,28 @@ fn field_at(text: &[u8], start: usize, end: usize) -> FieldLine
 pub fn read_fields(text: &[u8], from: usize) -> FieldsRead
     ensures { ReadsFields text.now (text_lines (drop from text.now)) result }
 {
-    let nothing = field_lines::no_entry();
-    let mut entries = [nothing; FIELD_LIMIT];
-    let mut count = 0;
-    let mut i = from;
-    while i < text.len() {
-        let end = text::line_end(text, i);
-        if end == i {
-            break;
-        }
-        let r = field_at(text, i, end);
-        if !r.good | (count == FIELD_LIMIT) {
+    let mut fields = Fields {
+        count: 0,
+        entries: [Entry::none(); FIELD_LIMIT],
+    };
+    for (start, line) in field_lines::lines_from(text, from) {
+        let Some(e) = field_lines::field_line(line) else {
             return FieldsRead {
                 good: false,
-                fields: Fields { count, entries },
+                fields,
+            };
+        };
+        if fields.count == FIELD_LIMIT {
+            return FieldsRead {
+                good: false,
+                fields,
             };
         }
-        let e = r.entry;
-        entries[count] = e;
-        count += 1;
-        i = end + 2;
+        fields.entries[fields.count] = Entry {
+            name: moved(e.name, start),
+            value: moved(e.value, start),
+        };
+        fields.count += 1;
     }
-    FieldsRead {
-        good: true,
-        fields: Fields { count, entries },
-    }
+    FieldsRead { good: true, fields }
 }

@@ -1,7 +1,7 @@
 // The fields of a head as places in its text.
 ghost use Rattle.std.specs.Prelude.{List, [], ◌≡◌, ℕ, min};
 ghost use Rattle.stream.specs.Limits.{field_limit};
-ghost use Rattle.fields.specs.Table.{fields_in};
+ghost use Rattle.fields.specs.Table.{fields_in, used_entries};
 
 use field_lines::Entry;
 use limits::FIELD_LIMIT;
@@ -11,6 +11,15 @@ use limits::FIELD_LIMIT;
 pub struct Fields {
     pub count: usize,
     pub entries: [Entry; FIELD_LIMIT],
+}
+
+impl Fields {
+    // The entries that are fields.
+    pub fn used(&self) -> &[Entry]
+        ensures { result.now ≡ used_entries self.now }
+    {
+        &self.entries[..self.count.min(FIELD_LIMIT)]
+    }
 }
 
 // What was looked for: where its bytes lie in the text, and nowhere if it was not found.
@@ -25,16 +34,15 @@ pub struct Value {
 pub fn count(f: Fields) -> usize
     ensures { result ≡ min f.count field_limit }
 {
-    places::least(f.count, FIELD_LIMIT)
+    f.count.min(FIELD_LIMIT)
 }
 
 // A table without fields.
 pub fn none() -> Fields
     ensures { (text : List ℕ) → fields_in text result ≡ [] }
 {
-    let nothing = field_lines::no_entry();
     Fields {
         count: 0,
-        entries: [nothing; FIELD_LIMIT],
+        entries: [Entry::none(); FIELD_LIMIT],
     }
 }
