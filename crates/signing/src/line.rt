@@ -12,13 +12,11 @@ use fields::Fields;
 fn put_lower(out: &mut [u8], at: usize, bytes: &[u8]) -> usize
     ensures { placed result out.new ≡ wrote out.old at (lowered bytes.now) }
 {
-    let end = places::least(bytes.len(), places::less(out.len(), at));
-    let mut i = 0;
-    while i < end {
+    let room = bytes.len().min(out.len().saturating_sub(at));
+    for i in 0..room {
         out[at + i] = text::lower(bytes[i]);
-        i += 1;
     }
-    at + i
+    at + room
 }
 
 // What stands before the value.
@@ -40,20 +38,16 @@ pub(crate) fn put_line(out: &mut [u8], at: usize, name: &[u8], value: &[u8]) -> 
 fn put_values(text: &[u8], f: Fields, name: &[u8], out: &mut [u8], from: usize) -> usize
     ensures { placed result out.new ≡ wrote out.old from (joined_value name.now (fields_in text.now f)) }
 {
-    let n = fields::count(f);
     let mut at = from;
     let mut first = true;
-    let mut i = 0;
-    while i < n {
-        let e = f.entries[i];
-        if fields::is_named(text, e, name) {
+    for e in f.used() {
+        if fields::is_named(text, *e, name) {
             if !first {
                 at = places::put(out, at, b", ");
             }
-            at = places::put(out, at, places::part(text, e.value_start, e.value_end));
+            at = places::put(out, at, e.value_in(text));
             first = false;
         }
-        i += 1;
     }
     at
 }

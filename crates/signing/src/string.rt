@@ -12,13 +12,10 @@ use names::Names;
 fn put_fields(text: &[u8], f: Fields, list: &[u8], n: Names, out: &mut [u8], from: usize) -> usize
     ensures { placed result out.new ≡ wrote out.old from (lines_in text.now f list.now n) }
 {
-    let end = names::count(n);
     let mut at = from;
-    let mut i = 2;
-    while i < end {
+    for i in 2..names::count(n) {
         let start = places::put(out, at, b"\n");
         at = line::put_field(text, f, names::name(list, n, i), out, start);
-        i += 1;
     }
     at
 }

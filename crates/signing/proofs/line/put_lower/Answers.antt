@@ -1,9 +1,8 @@
 -- The bytes that are written so far, in lower case, stand over those of the entry. Assumes nothing.
 use borrow.Author.Rules.{rules}
-use mathlib.Core.Path.{refl, sym, ap, ◌∙◌}
+use mathlib.Core.Path.{◌≡◌, refl, sym, ◌∙◌}
 use native.Mathlib.Omega.{arith}
-use Prim.Native.Nat.{min}
-use lib.ListN.{length, length-set}
+use lib.ListN.{length-set}
 use lib.Seq.{paste-zero}
 use Rattle.stream.specs.Bytes.{lowered}
 use Rattle.stream.proofs.Truth.{lowered_length}
@@ -12,12 +11,14 @@ use Rattle.signing.proofs.StringLaws.{lower_at}
 use Rattle.signing.proofs.line.put_lower.Goals as goal
 
 pub loop-i-init : goal.loop-i-init
-loop-i-init c = (omega arith, c.least-end.ensures ∙ ap (min (length c.args.bytes.now)) c.less.ensures, refl, paste-zero c.args.out.now c.args.at (lowered c.args.bytes.now))
+loop-i-init c = (refl, paste-zero c.args.out.now c.args.at (lowered c.args.bytes.now))
 
 pub loop-i-preserved : goal.loop-i-preserved
 loop-i-preserved c =
     let b = c.args.bytes.now in
-    (omega arith, search rules, simp length-set (search rules), put_turn _ c.loop-i.out _ _ c.loop-i.i _ c.loop-i.invariant.3 (omega arith) (omega (arith, lowered_length b)) (c.lower.ensures ∙ sym (lower_at b c.loop-i.i)))
+    (simp length-set (search rules), put_turn _ c.loop-i.out _ _ c.loop-i.i _ c.loop-i.invariant.1 (omega arith) (omega (arith, lowered_length b)) (c.lower.ensures ∙ sym (lower_at b c.loop-i.i)))
 
 pub returns : goal.returns
-returns c = put_end _ c.loop-i.out _ _ c.loop-i.i c.loop-i.invariant.3 (omega (arith, lowered_length c.args.bytes.now))
+returns c =
+    let e : c.loop-i.i ≡ c.min-room.result = omega arith in
+    rw (← e) (put_end _ c.loop-i.out _ _ c.loop-i.i c.loop-i.invariant.1 (omega (arith, lowered_length c.args.bytes.now)))
