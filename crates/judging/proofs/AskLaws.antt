@@ -19,7 +19,7 @@ use Rattle.head.specs.declared.whole.HeadRead.{HeadRead}
 use Rattle.head.proofs.ContentLaws.{status_good, signed_good, lines_good, injection_good, bsigs_good, sig0_good, names_good, signed_there, created_there, names_there}
 use Rattle.judging.specs.Judgement.{judged, asked}
 use Rattle.signing.specs.Writing.{string_of}
-use Rattle.judging.specs.declared.HeadAnswer.TheVariants.{Asks}
+use Rattle.std.specs.Prelude.{Ok}
 
 module _ (text : List ℕ) (r : HeadRead) (x : Reads text r) (z : r.fault ≡ 0) where
   -- the texts that the string is made of
@@ -42,11 +42,16 @@ module _ (text : List ℕ) (r : HeadRead) (x : Reads text r) (z : r.fault ≡ 0)
 
       pub asked_is : (key : ℕ)
           → judged
-          (record {
-            answer = Asks r.status r.signed.bsigs.size r.extent key r.signed.injection.id_length n;
-            signature = r.signed.sig0.signature;
+          (Ok (record {
+            status = r.status;
+            size = r.signed.bsigs.size;
+            extent = r.extent;
+            key = key;
             id = r.signed.injection.id;
-          })
+            id_length = r.signed.injection.id_length;
+            signature = r.signed.sig0.signature;
+            length = n;
+          }))
           b
           ≡ asked key (head_of text) question
       unfolding asked block_size injection_id head_signature

@@ -1,3 +1,2 @@
-pub mod TrustLaws
 pub mod AskLaws
 pub mod JudgeLaws

@@ -1,5 +1,5 @@
 -- The judgement of a head (paper 01, "The head" and "How a sitting goes"). Assumes nothing.
-use Rattle.std.specs.Prelude.{List, ◌++◌, ℕ, eqb, leb, length, drop, replicate}
+use Rattle.std.specs.Prelude.{List, ◌++◌, ℕ, eqb, leb, length, drop, Result, Ok, Err}
 use Rattle.octets.specs.Choice.{pick}
 use Rattle.params.specs.Injection.{padded}
 use Rattle.ranges.specs.Extent.{extent_of}
@@ -10,31 +10,36 @@ use Rattle.stream.specs.Numbers.{decimal_value}
 use Rattle.stream.specs.Places.{head_place}
 use Rattle.stream.specs.Ring.{number_of}
 use Rattle.stream.specs.Terms.{Terms}
-use Rattle.judging.specs.declared.HeadAnswer.TheVariants.{Refused, Asks}
-use Rattle.judging.specs.declared.Judged.{Judged}
+use Rattle.refusals.specs.declared.Refusal.{Refusal}
+use Rattle.judging.specs.declared.Asked.{Asked}
 
 -- the answer, and the buffer that was lent for the question
 pub record Judgement : Type 0 where
-  pub answer : Judged
+  pub answer : Result Asked Refusal
   pub question : List ℕ
 
-abbrev pub judged : Judged → List ℕ → Judgement
+abbrev pub judged : Result Asked Refusal → List ℕ → Judgement
 judged answer question = record { answer = answer; question = question }
 
 -- a refusal tells its number, and with 3 the place of the head's text, and nothing else
-abbrev pub none_asked : ℕ → List ℕ → Judged
-none_asked n l = record { answer = Refused (refusal_of n (head_place l)); signature = replicate 64 0; id = replicate id_limit 0 }
+abbrev pub none_asked : ℕ → List ℕ → Result Asked Refusal
+none_asked n l = Err (refusal_of n (head_place l))
 
 -- *question*: the signing string at the front of the buffer, the signature that is to be its, and the number of the key's record;
 -- with them what is told once the signature is good
 unfoldable pub asked : ℕ → Head → List ℕ → Judgement
 asked key h question =
     judged
-    (record {
-      answer = Asks (decimal_value (status_digits h)) (block_size h) (extent_of (range_of h)) key (length (injection_id h)) (length (signing_string h));
-      signature = head_signature h;
+    (Ok (record {
+      status = decimal_value (status_digits h);
+      size = block_size h;
+      extent = extent_of (range_of h);
+      key = key;
       id = padded id_limit (injection_id h);
-    })
+      id_length = length (injection_id h);
+      signature = head_signature h;
+      length = length (signing_string h);
+    }))
     (signing_string h ++ drop (length (signing_string h)) question)
 
 -- A refusal leaves the buffer as it is. A buffer that is shorter than the head may lack room for the signing string, so it is
