@@ -1,12 +1,11 @@
 -- What one byte of the head does (paper 01, "The head"): it is gathered, and the head that is whole with it is judged. Assumes
 -- nothing.
-use Rattle.std.specs.Prelude.{List, ℕ, ◌+◌, leb, length, take, set}
+use Rattle.std.specs.Prelude.{ℕ, ◌+◌, leb, length, take, set, Result, Ok, Err}
 use Rattle.octets.specs.Choice.{pick}
-use Rattle.ranges.specs.declared.extent.Extent.{Extent}
 use Rattle.refusals.specs.Refusals.{placed}
+use Rattle.refusals.specs.declared.Refusal.{Refusal}
 use Rattle.judging.specs.Judgement.{Judgement, head_judged}
-use Rattle.judging.specs.declared.HeadAnswer.{HeadAnswer}
-use Rattle.judging.specs.declared.HeadAnswer.TheVariants as A
+use Rattle.judging.specs.declared.Asked.{Asked}
 use Rattle.sha256.specs.Midstate.{start}
 use Rattle.stream.specs.Head.{is_whole_head}
 use Rattle.stream.specs.Limits.{head_limit}
@@ -22,20 +21,20 @@ abbrev pub asking : Reader → ℕ → Fixed → Reader
 asking r n fixed = reader_at r (P.HeadAsked n) fixed (record { number = record { 0 = 0 }; hash = r.chain.hash; body = start }) r.released
 
 -- what the head says; it is not accepted yet
-abbrev pub fixing : Fixed → ℕ → ℕ → Extent → ℕ → List ℕ → ℕ → Fixed
-fixing f status size extent key id id_length =
-    record { accepted = f.accepted; status = status; block_size = size; extent = extent; key = key; id = id; id_length = id_length }
+abbrev pub fixing : Fixed → Asked → Fixed
+fixing f a =
+    record { accepted = f.accepted; status = a.status; block_size = a.size; extent = a.extent; key = a.key; id = a.id; id_length = a.id_length }
 
--- the answer, with the signature, the id and the question buffer as judged
-unfoldable pub head_answered : Configuration → ℕ → HeadAnswer → List ℕ → List ℕ → Next
-head_answered d n (A.Refused k) signature id = refuse k 0 d
-head_answered d n (A.Asks status size extent key id_length length) signature id =
-    stop (W.Question length key) signature
-    (configuration (asking d.reader n (fixing d.reader.fixed status size extent key id id_length)) d.head d.block d.question)
+-- the answer, with the question buffer as judged
+unfoldable pub head_answered : Configuration → ℕ → Result Asked Refusal → Next
+head_answered d n (Err why) = refuse why 0 d
+head_answered d n (Ok a) =
+    stop (W.Question a.length a.key) a.signature
+    (configuration (asking d.reader n (fixing d.reader.fixed a)) d.head d.block d.question)
 
 -- the buffers after the judgement: a question is written, a refusal changes nothing
 abbrev pub judged_at : Configuration → ℕ → Judgement → Next
-judged_at d n j = head_answered (configuration d.reader d.head d.block j.question) n j.answer.answer j.answer.signature j.answer.id
+judged_at d n j = head_answered (configuration d.reader d.head d.block j.question) n j.answer
 
 -- the first n bytes of the head buffer are a whole head, or it goes on
 unfoldable pub head_gathered : Terms → Configuration → ℕ → Next

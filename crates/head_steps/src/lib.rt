@@ -8,12 +8,13 @@ ghost use Rattle.state.specs.Configuration.{configuration, next_of};
 ghost use Rattle.head_steps.specs.HeadByte.{asking, head_answered, head_gathered, push_head};
 
 use blocks::BlockNumber;
-use judging::{HeadAnswer, Judged};
+use judging::Asked;
 use limits::HEAD_LIMIT;
 use refusals::Refusal;
 use ring::KeyRing;
-use state::{Fixed, Phase, Reader, Stepped, Word};
+use state::{Chain, Fixed, Phase, Reader, Stepped, Word};
 
+#[tactic(auto, unfolding(stream::specs::Head::is_whole_head, stream::specs::Head::ends_head))]
 fn is_whole_head(text: &[u8]) -> bool
     ensures { result ≡ is_whole_head text.now }
 {
@@ -24,48 +25,46 @@ fn is_whole_head(text: &[u8]) -> bool
 fn asked(r: Reader, n: usize, fixed: Fixed) -> Reader
     ensures { result ≡ asking r n fixed }
 {
-    let mut chain = r.chain;
-    let first = BlockNumber(0);
-    chain.number = first;
-    chain.body = sha256::start();
-    let mut reader = state::in_phase(r, Phase::HeadAsked(n));
-    reader.fixed = fixed;
-    reader.chain = chain;
-    reader
+    let chain = Chain {
+        number: BlockNumber(0),
+        body: sha256::start(),
+        ..r.chain
+    };
+    Reader {
+        phase: Phase::HeadAsked(n),
+        fixed,
+        chain,
+        ..r
+    }
 }
 
 // Where the judgement of the head of n bytes leads. Nothing is pending, so that a refusal clears nothing.
-fn answer_judged(r: Reader, n: usize, judged: Judged) -> Stepped
-    ensures { (h b q : List ℕ) → next_of result h b q ≡ head_answered (configuration r h b q) n judged.answer judged.signature judged.id }
+#[tactic(auto, using(state::proofs::BufferLaws::cleared_none), unfolding(crate::specs::HeadByte::head_answered, state::specs::Configuration::refuse))]
+fn answer_judged(r: Reader, n: usize, judged: Result<Asked, Refusal>) -> Stepped
+    ensures { (h b q : List ℕ) → next_of result h b q ≡ head_answered (configuration r h b q) n judged }
 {
-    let signature = judged.signature;
-    let id = judged.id;
-    let answer = judged.answer;
-    match answer {
-        HeadAnswer::Refused(why) => state::said(
+    match judged {
+        Err(why) => state::said(
             Word::Refused(why),
             state::in_phase(r, Phase::Refused(why.number)),
         ),
-        HeadAnswer::Asks {
-            status,
-            size,
-            extent,
-            key,
-            id_length,
-            length,
-        } => {
-            let before = r.fixed;
+        Ok(a) => {
+            let id = a.id;
+            let signature = a.signature;
             let fixed = Fixed {
-                accepted: before.accepted,
-                status,
-                block_size: size,
-                extent,
-                key,
+                status: a.status,
+                block_size: a.size,
+                extent: a.extent,
+                key: a.key,
                 id,
-                id_length,
+                id_length: a.id_length,
+                ..r.fixed
             };
             Stepped {
-                word: Word::Question { length, key },
+                word: Word::Question {
+                    length: a.length,
+                    key: a.key,
+                },
                 signature,
                 reader: asked(r, n, fixed),
             }
@@ -74,6 +73,7 @@ fn answer_judged(r: Reader, n: usize, judged: Judged) -> Stepped
 }
 
 // With its newest byte, the head is the first n bytes of the head buffer.
+#[tactic(auto, unfolding(crate::specs::HeadByte::head_gathered))]
 fn judge_head(
     r: Reader,
     head: &[u8],
@@ -85,14 +85,15 @@ fn judge_head(
     requires { n ≤ length head.now }
     ensures { (b : List ℕ) → next_of result head.now b question.new ≡ head_gathered (terms_of ring uri.now) (configuration r head.now b question.old) n }
 {
-    if !is_whole_head(&head[0..n]) {
+    if !is_whole_head(&head[..n]) {
         return state::said(Word::More, r);
     }
-    let judged = judging::judge(&head[0..n], ring, uri, question);
+    let judged = judging::judge(&head[..n], ring, uri, question);
     answer_judged(r, n, judged)
 }
 
 // A byte of the head, of which `have` bytes have come.
+#[tactic(auto, using(state::proofs::BufferLaws::cleared_none), unfolding(crate::specs::HeadByte::push_head, state::specs::Configuration::refuse))]
 pub fn push_head(
     r: Reader,
     head: &mut [u8],
