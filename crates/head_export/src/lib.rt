@@ -5,7 +5,8 @@ ghost use Rattle.std.specs.Prelude.{◌≡◌};
 ghost use Rattle.ring.specs.Keys.{ring_of};
 ghost use Rattle.head_export.specs.Export.{made, answered, number_of, one_key};
 
-use judging::HeadAnswer;
+use judging::Asked;
+use refusals::Refusal;
 use ring::{KeyRecord, KeyRing};
 
 // A ring of one record, its key written in base64. A text that is no key gives a ring of none.
@@ -19,13 +20,13 @@ fn one_key(text: &[u8], first: u64, last: u64) -> KeyRing
     ring::added(ring::empty(), KeyRecord { key, first, last })
 }
 
-fn number_of(answer: HeadAnswer) -> u8
+fn number_of(answer: Result<Asked, Refusal>) -> u8
     ensures { result ≡ number_of answer }
 {
-    let HeadAnswer::Refused(why) = answer else {
-        return 0;
-    };
-    why.number
+    match answer {
+        Ok(_) => 0,
+        Err(why) => why.number,
+    }
 }
 
 // The number that refuses the head. Or 0, and the signing string from the front of the buffer. One key is trusted, from the first to
@@ -42,6 +43,5 @@ pub extern "C" fn thawrushes_judge_head(
     ensures { made result question.new ≡ answered text.now key.now first last uri.now question.old }
 {
     let judged = judging::judge(text, one_key(key, first, last), uri, question);
-    let answer = judged.answer;
-    number_of(answer)
+    number_of(judged)
 }
