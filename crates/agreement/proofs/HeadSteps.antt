@@ -72,8 +72,16 @@ module _ (terms : Terms) (fields : List Field) (d : Configuration) (x : ℕ) (le
   abbrev asks : Reader
   asks =
       asking d'.reader (have + 1)
-      (fixing d'.reader.fixed (decimal_value (status_digits (head_of l))) (block_size (head_of l)) (extent_of (range_of (head_of l))) (number_of (trusted_by terms.ring (head_of l)))
-      (padded id_limit (injection_id (head_of l))) (length (injection_id (head_of l))))
+      (fixing d'.reader.fixed (record {
+        status = decimal_value (status_digits (head_of l));
+        size = block_size (head_of l);
+        extent = extent_of (range_of (head_of l));
+        key = number_of (trusted_by terms.ring (head_of l));
+        id = padded id_limit (injection_id (head_of l));
+        id_length = length (injection_id (head_of l));
+        signature = head_signature (head_of l);
+        length = length message;
+      }))
 
   kept : Fixes asks.fixed (show_of terms.ring (head_of l))
   unfolding show_of padded

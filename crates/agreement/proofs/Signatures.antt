@@ -19,8 +19,7 @@ use Rattle.stream.specs.Limits.{line_limit, ring_limit}
 use Rattle.stream.specs.Lines.{crlf}
 use Rattle.stream.specs.Terms.{Terms}
 use Rattle.stream.specs.Trailer.{is_whole_trailer}
-use Rattle.judging.specs.declared.HeadAnswer.{HeadAnswer}
-use Rattle.judging.specs.declared.HeadAnswer.TheVariants as H
+use Rattle.judging.specs.declared.Asked.{Asked}
 use Rattle.state.specs.Configuration.{Configuration, Next, on, stop, no_signature, pending, refuse}
 use Rattle.state.specs.Run.{follow, run_of}
 use Rattle.state.specs.declared.phase.Phase.{Phase}
@@ -64,10 +63,10 @@ unfolding next_answered Line.asked
 unsigned_next d size (Err why) = unsigned_refuse why size d
 unsigned_next d size (Ok line) = λ e. absurd (true≢false e)
 
-unsigned_head : (d : Configuration) (n : ℕ) (a : HeadAnswer) (signature id : List ℕ) → Unsigned (head_answered d n a signature id)
+unsigned_head : (d : Configuration) (n : ℕ) (judged : Result Asked Refusal) → Unsigned (head_answered d n judged)
 unfolding head_answered
-unsigned_head d n (H.Refused k) signature id = unsigned_refuse k 0 d
-unsigned_head d n (H.Asks status size extent key id_length length) signature id = λ e. absurd (true≢false e)
+unsigned_head d n (Err why) = unsigned_refuse why 0 d
+unsigned_head d n (Ok a) = λ e. absurd (true≢false e)
 
 unsigned_trailer : (d : Configuration) (have total : ℕ) (a : EndAnswer) (signature : List ℕ) → Unsigned (trailer_answered d have total a signature)
 unfolding trailer_answered
@@ -79,7 +78,7 @@ unsigned_push : (terms : Terms) (d : Configuration) (p : Phase) (x : ℕ) → Un
 unfolding push_at push_head head_gathered push_data push_data_end push_first_line first_gathered push_next_line next_gathered push_trailer trailer_gathered
 unsigned_push terms d (P.Head have) x =
     unsigned_pick (leb (length d.head) have) _ _ (unsigned_refuse _ 0 d)
-    (unsigned_pick (is_whole_head (take (have + 1) (set d.head have x))) _ _ (unsigned_head _ (have + 1) _ _ _) tt)
+    (unsigned_pick (is_whole_head (take (have + 1) (set d.head have x))) _ _ (unsigned_head _ (have + 1) _) tt)
 unsigned_push terms d (P.HeadAsked n) x = λ e. refl
 unsigned_push terms d (P.FirstLine have) x =
     unsigned_pick (leb line_limit have) _ _ (unsigned_refuse _ 0 d)

@@ -12,8 +12,7 @@ use Rattle.std.specs.Prelude.{Result, Ok, Err}
 use Rattle.refusals.specs.declared.Refusal.{Refusal}
 use Rattle.ring.specs.Keys.{terms_of}
 use Rattle.ring.specs.declared.KeyRing.{KeyRing}
-use Rattle.judging.specs.declared.HeadAnswer.{HeadAnswer}
-use Rattle.judging.specs.declared.HeadAnswer.TheVariants as H
+use Rattle.judging.specs.declared.Asked.{Asked}
 use Rattle.stream.specs.Blocks.{is_whole_line}
 use Rattle.stream.specs.Bytes.{same}
 use Rattle.stream.specs.Head.{is_whole_head}
@@ -148,16 +147,16 @@ quiet_pick true m m' n n' a b = a
 quiet_pick false m m' n n' a b = b
 
 -- a whole head is refused or asked about
-quiet_judged : (d : Configuration) (n : ℕ) (a : HeadAnswer) (signature id : List ℕ) (other : Next) → Quiet (head_answered d n a signature id) other
+quiet_judged : (d : Configuration) (n : ℕ) (judged : Result Asked Refusal) (other : Next) → Quiet (head_answered d n judged) other
 unfolding head_answered refuse
-quiet_judged d n (H.Refused why) signature id other = record { same_next = λ e. absurd (true≢false (sym e)) }
-quiet_judged d n (H.Asks status size extent key id_length length) signature id other = record { same_next = λ e. absurd (true≢false (sym e)) }
+quiet_judged d n (Err why) other = record { same_next = λ e. absurd (true≢false (sym e)) }
+quiet_judged d n (Ok a) other = record { same_next = λ e. absurd (true≢false (sym e)) }
 
 quiet_push : (terms terms' : Terms) (d : Configuration) (p : Phase) (x : ℕ) → Quiet (push_at terms p d x) (push_at terms' p d x)
 unfolding push_at push_head head_gathered
 quiet_push terms terms' d (P.Head have) x =
     quiet_pick (leb (length d.head) have) _ _ _ _ (alike _)
-    (quiet_pick (is_whole_head (take (have + 1) (set d.head have x))) _ _ _ _ (quiet_judged _ _ _ _ _ _) (alike _))
+    (quiet_pick (is_whole_head (take (have + 1) (set d.head have x))) _ _ _ _ (quiet_judged _ _ _ _) (alike _))
 quiet_push terms terms' d (P.HeadAsked n) x = alike _
 quiet_push terms terms' d (P.FirstLine have) x = alike _
 quiet_push terms terms' d (P.Data have size) x = alike _

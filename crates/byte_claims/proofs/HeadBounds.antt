@@ -16,8 +16,8 @@ use Rattle.stream.specs.Ring.{number_of}
 use Rattle.stream.specs.Terms.{Terms}
 use Rattle.stream.proofs.SigningSize.{signing_fits}
 use Rattle.judging.specs.Judgement.{Judgement, asked, head_judged}
-use Rattle.judging.specs.declared.HeadAnswer.{HeadAnswer}
-use Rattle.judging.specs.declared.HeadAnswer.TheVariants as H
+use Rattle.judging.specs.declared.Asked.{Asked}
+use Rattle.std.specs.Prelude.{Result, Ok, Err}
 use Rattle.state.specs.Configuration.{Configuration, configuration, in_phase, Next, on, stop, refuse}
 use Rattle.state.specs.declared.phase.Phase.TheVariants as P
 use Rattle.state.specs.declared.word.Word.{Word}
@@ -55,13 +55,13 @@ unfolding refuse
 named_refuse why count e d = tt
 
 -- a question of at most m bytes, or none
-abbrev AsksUpTo : ℕ → HeadAnswer → Type 0
-AsksUpTo m (H.Refused n) = Unit {0}
-AsksUpTo m (H.Asks status size extent key id_length n) = n ≤ m
+abbrev AsksUpTo : ℕ → Result Asked Refusal → Type 0
+AsksUpTo m (Err why) = Unit {0}
+AsksUpTo m (Ok a) = a.length ≤ m
 
 record Judges (m : ℕ) (j : Judgement) : Type 0 where
   long : length j.question ≡ m
-  asks : AsksUpTo m j.answer.answer
+  asks : AsksUpTo m j.answer
 
 judges_pick : (m : ℕ) (t : Bool) (j k : Judgement) → (t ≡ true → Judges m j) → (t ≡ false → Judges m k) → Judges m (pick t j k)
 judges_pick m true j k f g = f refl
@@ -83,15 +83,15 @@ judges terms l q =
         record { long = front_long (signing_string (head_of l)) q m; asks = m }
 
 module _ (d : Configuration) (n : ℕ) where
-  answered_long : (a : HeadAnswer) (signature id : List ℕ) → Long d (desk_of (head_answered d n a signature id))
+  answered_long : (judged : Result Asked Refusal) → Long d (desk_of (head_answered d n judged))
   unfolding head_answered refuse
-  answered_long (H.Refused k) signature id = record { head = refl; block = length_cleared 0 d.block; question = refl }
-  answered_long (H.Asks status size extent key id_length length) signature id = record { head = refl; block = refl; question = refl }
+  answered_long (Err why) = record { head = refl; block = length_cleared 0 d.block; question = refl }
+  answered_long (Ok a) = record { head = refl; block = refl; question = refl }
 
-  answered_named : (e : Configuration) (a : HeadAnswer) (signature id : List ℕ) → AsksUpTo (length e.question) a → NamedNext (head_answered d n a signature id) e
+  answered_named : (e : Configuration) (judged : Result Asked Refusal) → AsksUpTo (length e.question) judged → NamedNext (head_answered d n judged) e
   unfolding head_answered refuse
-  answered_named e (H.Refused k) signature id m = tt
-  answered_named e (H.Asks status size extent key id_length length) signature id m = m
+  answered_named e (Err why) m = tt
+  answered_named e (Ok a) m = m
 
 long_pick : (d : Configuration) (t : Bool) (m n : Next) → Long d (desk_of m) → Long d (desk_of n) → Long d (desk_of (pick t m n))
 long_pick d true m n a b = a
@@ -113,7 +113,7 @@ head_long terms d have x =
     let j = head_judged terms (take (have + 1) l) d.question in
     let k : Long e (configuration e.reader l d.block j.question) = record { head = refl; block = refl; question = (judges terms (take (have + 1) l) d.question).long } in
     long_pick d (leb (length d.head) have) _ _ (refused_long _ 0 d)
-    (long_pick d (is_whole_head (take (have + 1) l)) _ _ (long_trans s (long_trans k (answered_long _ (have + 1) j.answer.answer j.answer.signature j.answer.id))) s)
+    (long_pick d (is_whole_head (take (have + 1) l)) _ _ (long_trans s (long_trans k (answered_long _ (have + 1) j.answer))) s)
 
 pub head_named : (terms : Terms) (d : Configuration) (have x : ℕ) → NamedNext (push_head terms d have x) d
 unfolding push_head head_gathered
@@ -122,5 +122,5 @@ head_named terms d have x =
     let j = head_judged terms (take (have + 1) l) d.question in
     named_pick d (leb (length d.head) have) _ _ (named_refuse _ 0 d d)
     (named_pick d (is_whole_head (take (have + 1) l)) _ _
-    (answered_named _ (have + 1) d j.answer.answer j.answer.signature j.answer.id (judges terms (take (have + 1) l) d.question).asks)
+    (answered_named _ (have + 1) d j.answer (judges terms (take (have + 1) l) d.question).asks)
     tt)

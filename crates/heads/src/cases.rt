@@ -3,7 +3,6 @@ ghost use Rattle.std.specs.Prelude.{◌<◌, ◌≤◌, IfOk, length};
 
 use crate::keys;
 use crate::lines::{say, say_count, say_number};
-use judging::HeadAnswer;
 use limits::HEAD_LIMIT;
 use ranges::Extent;
 use refusals::Refusal;
@@ -74,29 +73,21 @@ fn judge_case(
     question: &mut [u8; HEAD_LIMIT],
 ) -> io::Result<()> {
     let judged = judging::judge(head, ring, b"https://example.com/hello", question);
-    let id = judged.id;
-    let signature = judged.signature;
-    let answer = judged.answer;
     say(rt, label)?;
-    match answer {
-        HeadAnswer::Refused(why) => {
+    match judged {
+        Err(why) => {
             say_refused(rt, why)?;
         }
-        HeadAnswer::Asks {
-            status,
-            size,
-            extent,
-            key,
-            id_length,
-            length,
-        } => {
-            say_count(rt, b" asks ", length)?;
-            say_number(rt, b" status ", status)?;
-            say_count(rt, b" size ", size)?;
-            say_extent(rt, extent)?;
-            say_count(rt, b" key ", key)?;
-            say_part(rt, b" id ", &id, id_length)?;
-            say_string(rt, label, &signature, places::part(question, 0, length))?;
+        Ok(a) => {
+            let id = a.id;
+            let signature = a.signature;
+            say_count(rt, b" asks ", a.length)?;
+            say_number(rt, b" status ", a.status)?;
+            say_count(rt, b" size ", a.size)?;
+            say_extent(rt, a.extent)?;
+            say_count(rt, b" key ", a.key)?;
+            say_part(rt, b" id ", &id, a.id_length)?;
+            say_string(rt, label, &signature, places::part(question, 0, a.length))?;
         }
     }
     say(rt, b"\n")
