@@ -79,7 +79,7 @@ take_up_to f n (suc m) h =
     (λ l. take-append-le n (up_to f m) _ (omega (arith, long_up_to f m)) ∙ take_up_to f n m (le_of_suc-le-suc l))
     (eq-or-lt_of_le h)
 
-abbrev no_key : KeyRecord
+abbrev pub no_key : KeyRecord
 no_key = record { key = []; first = 0; last = 0 }
 
 module _ (ks : Ring) (s : SoundKeys ks) where

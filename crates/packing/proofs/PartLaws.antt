@@ -1,13 +1,18 @@
 -- Laws on numbers and runs of bytes in a buffer: turns of the loops that read and write them, and what is read back. Assumes nothing.
 use mathlib.Core.Path.{◌≡◌, refl, sym, ap, ◌∙◌}
 use mathlib.Core.Logic.{⊎_elim}
-use mathlib.Core.List.{List, [], ◌∷◌, ◌++◌, append_assoc, append-nil}
-use Prim.Native.Nat.{ℕ, zero, suc, ◌+◌, ◌-◌, ◌*◌, ◌/◌, ◌%◌, ◌^◌, ◌≤◌, ◌<◌, min}
+use mathlib.Core.List.{List, [], ◌∷◌, ◌++◌, append_assoc}
+use Prim.Native.Nat.{ℕ, zero, suc, ◌+◌, ◌*◌, ◌/◌, ◌%◌, ◌^◌, ◌≤◌, ◌<◌}
 use native.Mathlib.Nat.{pow-suc, add-zero, suc-add, add-suc, eq-or-lt_of_le, le_of_suc-le-suc}
 use native.Mathlib.Numerals.{add-one}
 use native.Mathlib.Omega.{arith}
-use lib.ListN.{length, get_or, set, drop, length-append, drop_of_length-le, get_or-append}
-use lib.Seq.{sets, drop-cons, drop-drop, drop_at, append_snoc, set_at, set_out, get_or_at, get_or-drop, ext_get_or}
+use lib.ListN.{length, get_or, set, take, drop, replicate, length-append, length-take, length-replicate, take-append-drop, drop_of_length-le, get_or-append}
+use lib.Seq.{paste, paste-zero, sets, sets-eq, length-sets, drop-cons, drop-drop, drop_at, set_out, get_or_at, get_or-drop, ext_get_or}
+use Rattle.std.proofs.lemmas.Bool.{cases_lt}
+use Rattle.std.proofs.lemmas.Grind.{common_steps}
+use Rattle.std.specs.Int.{w64, to_le_bytes, from_le_bytes}
+use Rattle.places.specs.Writing.{placed, room, wrote}
+use Rattle.places.proofs.WritingLaws.{bytes_are, same_size}
 use Rattle.packing.specs.Parts.{little_endian, all_bytes, number, up_to, part, number_at, words_at}
 
 -- ---- a list of f's values
@@ -25,50 +30,10 @@ at_up_to f (suc n) i d h =
     (λ l. get_or-append (up_to f n) _ d i (omega (arith, long_up_to f n)) ∙ at_up_to f n i d l)
     (eq-or-lt_of_le (le_of_suc-le-suc h))
 
--- a loop that fills d with them from the front
-pub fill_turn : {A : Type 0} (f : ℕ → A) (d l : List A) (i : ℕ) (x : A) → l ≡ up_to f i ++ drop i d → i < length d → x ≡ f i → set l i x ≡ up_to f (i + 1) ++ drop (i + 1) d
-unfolding up_to
-fill_turn f d l i x e h k =
-    rw (e, k, add-one, drop-cons d i x h, append_snoc (up_to f i) (f i) (drop (suc i) d)) (set_at (up_to f i) _ (drop (suc i) d) (f i) i (long_up_to f i))
-
-pub fill_end : {A : Type 0} (f : ℕ → A) (d l : List A) (i n : ℕ) → l ≡ up_to f i ++ drop i d → length d ≤ i → i ≡ n → l ≡ up_to f n
-fill_end f d l i n e h k = e ∙ (rw (drop_of_length-le d {i = i} h, append-nil, k))
-
--- a list is its own values
-pub all_up_to : (l : List ℕ) (n : ℕ) → length l ≡ n → up_to (λ j. get_or l j 0) n ≡ l
-all_up_to l n e =
-    ext_get_or 0 (up_to (λ j. get_or l j 0) n) l (long_up_to _ n ∙ sym e)
-    (λ i h. at_up_to (λ j. get_or l j 0) n i 0 (omega (arith, long_up_to (λ j. get_or l j 0) n)))
-
--- ---- bytes written over a buffer: a turn of the loop, and its end
-
--- one byte, and the others
-sets_more : (l s : List ℕ) (k k' x : ℕ) → k' ≡ suc k → sets l k (x ∷ s) ≡ sets (set l k x) k' s
-sets_more l s k k' x e = rw e
-
-pub bytes_turn : (s l : List ℕ) (at i : ℕ) → i < length s → sets l (at + i) (drop i s) ≡ sets (set l (at + i) (get_or s i 0)) (at + (i + 1)) (drop (i + 1) s)
-bytes_turn s l at i h = rw (drop-cons s i 0 h, add-one i) (sets_more l (drop (suc i) s) (at + i) (at + suc i) (get_or s i 0) (omega arith))
-
--- past the end nothing is written
-sets_out : (l s : List ℕ) (k : ℕ) → length l ≤ k → sets l k s ≡ l
-sets_out l [] k h = refl
-sets_out l (x ∷ s) k h = rw (set_out l k x h) (sets_out l s (suc k) (omega arith))
-
--- all bytes are written, or all the room is
-pub bytes_end : (s l : List ℕ) (at i : ℕ) → i ≤ length s → min (length s) (length l - at) ≤ i → sets l (at + i) (drop i s) ≡ l
-bytes_end s l at i h g =
-    ⊎_elim (λ e. rw (drop_of_length-le s {i = i} (omega (arith, e)))) (λ k. sets_out l (drop i s) (at + i) (omega (arith, k))) (eq-or-lt_of_le h)
-
-pub number_turn : (l : List ℕ) (at n i x : ℕ) → i < 8 → x ≡ n % 256 → sets l (at + i) (little_endian (8 - i) n) ≡ sets (set l (at + i) x) (at + (i + 1)) (little_endian (8 - (i + 1)) (n / 256))
-unfolding little_endian
-number_turn l at n i x h k =
-    let e : 8 - i ≡ suc (8 - (i + 1)) = omega arith in
-    rw (k, e) (sets_more l (little_endian (8 - (i + 1)) (n / 256)) (at + i) (at + (i + 1)) (n % 256) (omega arith))
-
-pub number_end : (l : List ℕ) (at n i : ℕ) → i ≤ 8 → min 8 (length l - at) ≤ i → sets l (at + i) (little_endian (8 - i) n) ≡ l
-unfolding little_endian
-number_end l at n i h g =
-    ⊎_elim (λ e. let z : 8 - i ≡ 0 = omega (arith, e) in rw z) (λ k. sets_out l (little_endian (8 - i) n) (at + i) (omega (arith, k))) (eq-or-lt_of_le h)
+-- a list that has them is that list
+pub filled : {A : Type 0} (f : ℕ → A) (n : ℕ) (d : A) (l : List A) → length l ≡ n → ((i : ℕ) → i < n → get_or l i d ≡ f i) → l ≡ up_to f n
+filled f n d l e h =
+    ext_get_or d l (up_to f n) (e ∙ sym (long_up_to f n)) (λ i k. h i (omega (arith, e)) ∙ sym (at_up_to f n i d (omega (arith, e))))
 
 -- ---- one run of bytes after another
 
@@ -85,6 +50,59 @@ pub long_all : (ns : List ℕ) → length (all_bytes ns) ≡ 8 * length ns
 unfolding all_bytes
 long_all [] = refl
 long_all (n ∷ ns) = length-append (little_endian 8 n) (all_bytes ns) ∙ (rw (long_bytes 8 n, long_all ns) (omega arith))
+
+-- bytes past the end are not written
+sets_out : (l s : List ℕ) (k : ℕ) → length l ≤ k → sets l k s ≡ l
+sets_out l [] k h = refl
+sets_out l (x ∷ s) k h = rw (set_out l k x h) (sets_out l s (suc k) (omega arith))
+
+-- what `put` writes
+module _ (l s : List ℕ) (at : ℕ) where
+  abbrev some : List ℕ
+  some = take (room l at s) s
+
+  long_some : length some ≡ room l at s
+  long_some = omega (arith, length-take (room l at s) s)
+
+  sets_some : sets l at s ≡ sets l at some
+  sets_some =
+      let h : room l at s ≤ length s = omega arith in
+      ap (sets l at) (sym (take-append-drop (room l at s) s))
+      ∙ sets_append l some (drop (room l at s) s) at
+      ∙ ⊎_elim
+      (λ e. rw (drop_of_length-le s {i = room l at s} (omega (arith, e))))
+      (λ k. sets_out (sets l at some) (drop (room l at s) s) (at + length some) (omega (arith, k, long_some, length-sets l at some)))
+      (eq-or-lt_of_le h)
+
+  sets_paste : sets l at s ≡ paste l at s (room l at s)
+  sets_paste =
+      sets_some
+      ∙ ⊎_elim
+      (λ (k : length l < at + room l at s). let z : room l at s ≡ 0 = omega (arith, k) in rw z (paste-zero l at s))
+      (λ (e : at + room l at s ≤ length l). sets-eq some l at (omega (arith, e, long_some)) ∙ rw long_some)
+      (cases_lt (length l) (at + room l at s))
+
+  pub sets_put : (r : List ℕ) (n : ℕ) → placed n r ≡ wrote l at s → r ≡ sets l at s
+  sets_put r n e = bytes_are l at s n r e ∙ sym sets_paste
+
+-- a part, written over zeros
+pub part_put : (l s r : List ℕ) (at n m : ℕ) → s ≡ drop at l → placed m r ≡ wrote (replicate n 0) 0 s → r ≡ part l at n
+part_put l s r at n m h e =
+    let b = bytes_are (replicate n 0) 0 s m r e in
+    filled (λ i. get_or l (at + i) 0) n 0 r
+    (same_size (replicate n 0) 0 s m r e ∙ length-replicate n 0)
+    (λ i k. rw (b, h) (grind (arith, common_steps)))
+
+pub part_none : (l : List ℕ) (at n : ℕ) → length l < at → replicate n 0 ≡ part l at n
+part_none l at n h = filled (λ i. get_or l (at + i) 0) n 0 (replicate n 0) (length-replicate n 0) (λ i k. grind (arith, common_steps))
+
+pub little_endian_is : (n : ℕ) → to_le_bytes w64 n ≡ little_endian 8 n
+unfolding little_endian
+little_endian_is n = grind arith
+
+pub number_is : (l : List ℕ) (at : ℕ) → from_le_bytes w64 (part l at 8) ≡ number_at l at
+unfolding number number_at up_to
+number_is l at = rw add-zero (omega arith)
 
 -- a loop that writes numbers: a turn, and its end
 pub numbers_turn : (ns l m : List ℕ) (at i : ℕ) → i < length ns → m ≡ sets l (at + 8 * i) (little_endian 8 (get_or ns i 0)) → sets l (at + 8 * i) (all_bytes (drop i ns)) ≡ sets m (at + 8 * (i + 1)) (all_bytes (drop (i + 1) ns))

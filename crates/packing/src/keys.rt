@@ -2,7 +2,7 @@
 ghost use Rattle.std.specs.Prelude.{◌≡◌, ◌<◌};
 ghost use Rattle.packing.specs.Keys.{count_of, record_at, keys_in};
 
-use crate::parts::{copy_part, number_at};
+use crate::parts::{bytes, number_at};
 use limits::RING_LIMIT;
 use ring::{KeyRecord, KeyRing};
 
@@ -18,15 +18,13 @@ fn count_of(n: usize) -> usize
     RING_LIMIT + 1
 }
 
-fn record_at(ring: &[u8], i: u16) -> KeyRecord
+fn record_at(ring: &[u8], i: usize) -> KeyRecord
     requires { i < 16 }
     ensures { result ≡ record_at ring.now i }
 {
-    let at = RECORD_SIZE as u16 * i;
-    let mut key = [0; 32];
-    copy_part(&mut key, ring, at as usize);
+    let at = RECORD_SIZE * i;
     KeyRecord {
-        key,
+        key: bytes(ring, at),
         first: number_at(ring, at + 32),
         last: number_at(ring, at + 40),
     }
@@ -36,17 +34,9 @@ fn record_at(ring: &[u8], i: u16) -> KeyRecord
 pub fn keys_in(ring: &[u8]) -> KeyRing
     ensures { result ≡ keys_in ring.now }
 {
-    let none = KeyRecord {
-        key: [0; 32],
-        first: 0,
-        last: 0,
-    };
-    let mut records = [none; RING_LIMIT];
-    let mut i = 0;
-    while i < RING_LIMIT {
-        let entry = record_at(ring, i as u16);
-        records[i] = entry;
-        i += 1;
+    let mut records = ring::empty().records;
+    for (i, entry) in records.iter_mut().enumerate() {
+        *entry = record_at(ring, i);
     }
     KeyRing {
         count: count_of(ring.len()),

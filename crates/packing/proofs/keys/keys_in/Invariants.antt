@@ -1,14 +1,10 @@
--- The records read so far stand in front of the room as it was. Assumes nothing.
+-- The records so far are read each by itself. Assumes nothing.
 use mathlib.Core.Path.{◌≡◌}
-use mathlib.Core.List.{◌++◌}
-use Prim.Native.Nat.{◌-◌, ◌≤◌}
-use lib.ListN.{length, drop}
+use Prim.Native.Nat.{ℕ, ◌<◌}
+use lib.ListN.{length, get_or}
+use Rattle.ring.specs.declared.KeyRecord.{KeyRecord}
 use Rattle.packing.specs.Keys.{record_at}
-use Rattle.packing.specs.Parts.{up_to}
 use Rattle.packing.proofs.keys.keys_in.Given as goal
 
 abbrev pub invariant-loop-i : goal.invariant-loop-i
-invariant-loop-i l = (l.records ≡ up_to (record_at l.ring) l.i ++ drop l.i l.initial.records) × (l.i ≤ 16) × (length l.initial.records ≡ 16) × (length l.records ≡ 16)
-
-abbrev pub decreases-loop-i : goal.decreases-loop-i
-decreases-loop-i l = 16 - l.i
+invariant-loop-i l = (length l.entry-items ≡ 16) × ((k : ℕ) (d : KeyRecord) → k < l.i → get_or l.entry-items k d ≡ record_at l.ring k)

@@ -4,4 +4,4 @@ use Rattle.packing.proofs.keys.record_at.Goals as goal
 
 pub returns : goal.returns
 unfolding record_at
-returns c = rw (c.copy_part.ensures, c.number_at.ensures, c.number_at-2.ensures)
+returns c = rw (c.bytes.ensures, c.number_at.ensures, c.number_at-2.ensures)
