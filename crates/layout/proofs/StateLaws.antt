@@ -23,7 +23,7 @@ use Rattle.state.specs.declared.reader.Fixed.{Fixed}
 use Rattle.state.specs.declared.reader.Reader.{Reader}
 use Rattle.state.specs.contracts.reader.Reader as declared
 use Rattle.packing.specs.Parts.{little_endian, all_bytes, number_at}
-use Rattle.layout.specs.State.{state_size, tag_of, first_of, second_of, refusal_of, phase_of, kind_of, first_byte_of, last_byte_of, total_of, InExtent, extent_from, phase_bytes, fixed_bytes, chain_bytes, body_bytes, extent_bytes, encoded, stored, extent_in, fixed_in, chain_in, decoded}
+use Rattle.layout.specs.State.{state_size, tag_of, first_of, second_of, phase_of, InPhase, kind_of, first_byte_of, last_byte_of, total_of, InExtent, extent_from, phase_bytes, fixed_bytes, chain_bytes, body_bytes, extent_bytes, encoded, stored, extent_in, fixed_in, chain_in, decoded}
 use Rattle.packing.proofs.PartLaws.{sets_next, long_next, long_bytes, long_all, concat, At, past, part_there, number_there, Words, none, more}
 use Rattle.layout.proofs.BodyLaws.{SoundBody, long_body, body_back}
 
@@ -142,11 +142,6 @@ module _ {whole : List ℕ} {ss ts : List (List ℕ)} (c : Chain) (s : SoundChai
 
 -- ---- the phase
 
-pub record InRange (p : Phase) : Type 0 where
-  pub first : first_of p < 2 ^ 64
-  pub second : second_of p < 2 ^ 64
-  pub refusal : refusal_of p < 256
-
 tag_small : (p : Phase) → tag_of p < 2 ^ 64
 tag_small (P.Head n) = omega arith
 tag_small (P.HeadAsked n) = omega arith
@@ -161,7 +156,7 @@ tag_small (P.Closed total) = omega arith
 tag_small (P.Complete total) = omega arith
 tag_small (P.Refused n) = omega arith
 
-phase_back : (p : Phase) → InRange p → phase_of (tag_of p) (first_of p) (second_of p) ≡ p
+phase_back : (p : Phase) → InPhase p → phase_of (tag_of p) (first_of p) (second_of p) ≡ p
 unfolding phase_of
 phase_back (P.Head n) h = refl
 phase_back (P.HeadAsked n) h = refl
@@ -176,7 +171,7 @@ phase_back (P.Closed total) h = refl
 phase_back (P.Complete total) h = refl
 phase_back (P.Refused n) h = let e : n % 256 ≡ n = omega (arith, h.refusal) in rw e
 
-module _ {whole : List ℕ} {ss : List (List ℕ)} (p : Phase) (s : InRange p) (e : At whole 0 (phase_bytes p ∷ ss)) where
+module _ {whole : List ℕ} {ss : List (List ℕ)} (p : Phase) (s : InPhase p) (e : At whole 0 (phase_bytes p ∷ ss)) where
   phase_parts : At whole 0 (little_endian 8 (tag_of p) ∷ little_endian 8 (first_of p) ∷ little_endian 8 (second_of p) ∷ ss)
   unfolding all_bytes concat
   phase_parts = record { there = e.there ∙ (simp (append_assoc, append-nil)) }
@@ -240,7 +235,7 @@ module _ (r : Reader) (id : length r.fixed.id ≡ 64) (hash : length r.chain.has
       sets_next d l₆ l₇ (with_body r) (extent_bytes r.fixed.extent) 0 472 472 p₆ (long_to_extent s) refl e₇
 
 pub record Sound (r : Reader) : Type 0 where
-  pub phase : InRange r.phase
+  pub phase : InPhase r.phase
   pub fixed : SoundFixed r.fixed
   pub chain : SoundChain r.chain
   pub line : length r.line ≡ 128
@@ -314,7 +309,7 @@ words_of [] us is = none
 words_of (w ∷ ws) [] is = absurd is
 words_of (w ∷ ws) (u ∷ us) is = more is.0.1 (words_of ws us is.1)
 
-pub sound : (r : Reader) (vs : List Val) → Is declared.the_row r vs → InRange r.phase → InExtent r.fixed.extent → Sound r
+pub sound : (r : Reader) (vs : List Val) → Is declared.the_row r vs → InPhase r.phase → InExtent r.fixed.extent → Sound r
 sound r vs is p x =
     let f = is.1.1 in
     let g = f.1.0.1.1 in

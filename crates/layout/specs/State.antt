@@ -76,6 +76,12 @@ refusal_of (P.Closed total) = 0
 refusal_of (P.Complete total) = 0
 refusal_of (P.Refused n) = n
 
+-- the counts are numbers of 64 bits, and the number of a refusal is one byte
+pub record InPhase (p : Phase) : Type 0 where
+  pub first : first_of p < 2 ^ 64
+  pub second : second_of p < 2 ^ 64
+  pub refusal : refusal_of p < 256
+
 -- the number of a refusal is one byte: of a larger one the lowest byte counts; any other tag is a refusal
 unfoldable pub phase_of : ℕ → ℕ → ℕ → Phase
 phase_of tag a b =

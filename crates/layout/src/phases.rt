@@ -1,69 +1,31 @@
 // A phase as three numbers: its tag, and the two counts that it carries, 0 where it carries none.
-ghost use Rattle.std.specs.Prelude.{◌≡◌, ◌<◌};
-ghost use Rattle.layout.specs.State.{tag_of, first_of, second_of, refusal_of, phase_of};
+ghost use Rattle.std.specs.Prelude.{[], ◌∷◌, ◌≡◌};
+ghost use Rattle.layout.specs.State.{tag_of, first_of, second_of, InPhase, phase_of};
 
 use state::Phase;
 
-// The tag, then the first and the second count.
-pub(crate) fn tag(p: Phase) -> u64
-    ensures { result ≡ tag_of p }
+// The tag, then the first and the second count. That each is a number of 64 bits, and a refusal's of 8, is said beside.
+pub(crate) fn numbers(p: Phase) -> [u64; 3]
+    ensures { (result ≡ tag_of p ∷ first_of p ∷ second_of p ∷ []) × InPhase p }
 {
     match p {
-        Phase::Head(_) => 0,
-        Phase::HeadAsked(_) => 1,
-        Phase::FirstLine(_) => 2,
-        Phase::Data { have: _, size: _ } => 3,
-        Phase::DataEnd { have: _, size: _ } => 4,
-        Phase::NextLine { have: _, size: _ } => 5,
-        Phase::BlockAsked { size: _, next: _ } => 6,
-        Phase::Trailer { have: _, total: _ } => 7,
-        Phase::EndAsked { have: _, total: _ } => 10,
-        Phase::Closed(_) => 8,
-        Phase::Complete(_) => 11,
-        Phase::Refused(_) => 9,
-    }
-}
-
-// That the number of a refusal is a byte is said beside: it is read back as one.
-pub(crate) fn first(p: Phase) -> u64
-    ensures { (result ≡ first_of p) × (refusal_of p < 256) }
-{
-    match p {
-        Phase::Head(n) => n as u64,
-        Phase::HeadAsked(n) => n as u64,
-        Phase::FirstLine(n) => n as u64,
-        Phase::Data { have, size: _ } => have as u64,
-        Phase::DataEnd { have, size: _ } => have as u64,
-        Phase::NextLine { have, size: _ } => have as u64,
-        Phase::BlockAsked { size, next: _ } => size as u64,
-        Phase::Trailer { have, total: _ } => have as u64,
-        Phase::EndAsked { have, total: _ } => have as u64,
-        Phase::Closed(total) => total,
-        Phase::Complete(total) => total,
-        Phase::Refused(n) => n as u64,
-    }
-}
-
-pub(crate) fn second(p: Phase) -> u64
-    ensures { result ≡ second_of p }
-{
-    match p {
-        Phase::Head(_) => 0,
-        Phase::HeadAsked(_) => 0,
-        Phase::FirstLine(_) => 0,
-        Phase::Data { have: _, size } => size as u64,
-        Phase::DataEnd { have: _, size } => size as u64,
-        Phase::NextLine { have: _, size } => size as u64,
-        Phase::BlockAsked { size: _, next } => next as u64,
-        Phase::Trailer { have: _, total } => total,
-        Phase::EndAsked { have: _, total } => total,
-        Phase::Closed(_) => 0,
-        Phase::Complete(_) => 0,
-        Phase::Refused(_) => 0,
+        Phase::Head(n) => [0, n as u64, 0],
+        Phase::HeadAsked(n) => [1, n as u64, 0],
+        Phase::FirstLine(n) => [2, n as u64, 0],
+        Phase::Data { have, size } => [3, have as u64, size as u64],
+        Phase::DataEnd { have, size } => [4, have as u64, size as u64],
+        Phase::NextLine { have, size } => [5, have as u64, size as u64],
+        Phase::BlockAsked { size, next } => [6, size as u64, next as u64],
+        Phase::Trailer { have, total } => [7, have as u64, total],
+        Phase::EndAsked { have, total } => [10, have as u64, total],
+        Phase::Closed(total) => [8, total, 0],
+        Phase::Complete(total) => [11, total, 0],
+        Phase::Refused(n) => [9, u64::from(n), 0],
     }
 }
 
 // The phase of three numbers. A tag that is no phase's gives a last one.
+#[tactic(auto, unfolding(crate::specs::State::phase_of))]
 pub(crate) fn phase(tag: u64, a: u64, b: u64) -> Phase
     ensures { result ≡ phase_of tag a b }
 {

@@ -4,12 +4,9 @@ ghost use Rattle.std.proofs.lemmas.List.Edits.{sets};
 ghost use Rattle.packing.specs.Parts.{number_at};
 ghost use Rattle.layout.specs.State.{state_size, phase_of, fixed_bytes, chain_bytes, body_bytes, extent_bytes, InExtent, encoded, stored, extent_in, fixed_in, body_in, chain_in, decoded};
 
-use crate::extents;
-use crate::phases::{first, phase, second, tag};
+use crate::{extents, phases};
 use blocks::BlockNumber;
-use packing::{
-    bytes_64, bytes_128, number_at, put_64, put_128, put_number, put_numbers, put_words, words_at,
-};
+use packing::{bytes, number_at, put_array, put_number, put_numbers, put_words, words_at};
 use ranges::Extent;
 use sha256::Midstate;
 use state::{Chain, Fixed, Phase, Reader};
@@ -20,13 +17,14 @@ pub const STATE_SIZE: usize = 504;
 fn phase_at(state: &[u8]) -> Phase
     ensures { result ≡ phase_of (number_at state.now 0) (number_at state.now 8) (number_at state.now 16) }
 {
-    phase(
+    phases::phase(
         number_at(state, 0),
         number_at(state, 8),
         number_at(state, 16),
     )
 }
 
+#[tactic(auto, unfolding(crate::specs::State::extent_in))]
 fn extent_at(state: &[u8]) -> Extent
     ensures { result ≡ extent_in state.now }
 {
@@ -38,6 +36,7 @@ fn extent_at(state: &[u8]) -> Extent
     )
 }
 
+#[tactic(auto, unfolding(crate::specs::State::fixed_in))]
 fn fixed_at(state: &[u8]) -> Fixed
     ensures { result ≡ fixed_in state.now }
 {
@@ -47,32 +46,35 @@ fn fixed_at(state: &[u8]) -> Fixed
         block_size: number_at(state, 40) as usize,
         extent: extent_at(state),
         key: number_at(state, 48) as usize,
-        id: bytes_64(state, 56),
+        id: bytes(state, 56),
         id_length: number_at(state, 120) as usize,
     }
 }
 
+#[tactic(auto, unfolding(crate::specs::State::body_in))]
 fn body_at(state: &[u8]) -> Midstate
     ensures { result ≡ body_in state.now }
 {
     Midstate {
         words: words_at(state, 336),
-        rest: bytes_64(state, 400),
+        rest: bytes(state, 400),
         count: number_at(state, 464),
     }
 }
 
+#[tactic(auto, unfolding(crate::specs::State::chain_in))]
 fn chain_at(state: &[u8]) -> Chain
     ensures { result ≡ chain_in state.now }
 {
     Chain {
         number: BlockNumber(number_at(state, 128)),
-        hash: bytes_64(state, 136),
+        hash: bytes(state, 136),
         body: body_at(state),
     }
 }
 
 // The state that the bytes say, any bytes: those that are missing count as 0.
+#[tactic(auto, unfolding(crate::specs::State::decoded))]
 pub fn load(state: &[u8]) -> Reader
     ensures { result ≡ decoded state.now }
 {
@@ -80,7 +82,7 @@ pub fn load(state: &[u8]) -> Reader
         phase: phase_at(state),
         fixed: fixed_at(state),
         chain: chain_at(state),
-        line: bytes_128(state, 200),
+        line: bytes(state, 200),
         released: number_at(state, 328) as usize,
     }
 }
@@ -90,47 +92,39 @@ pub fn load(state: &[u8]) -> Reader
 fn put_fixed(f: Fixed, state: &mut [u8])
     ensures { (state.new ≡ sets state.old 24 (fixed_bytes f)) × (length f.id ≡ 64) }
 {
-    let id = f.id;
-    let numbers = [
-        f.accepted as u64,
-        f.status,
-        f.block_size as u64,
-        f.key as u64,
-    ];
-    put_numbers(state, 24, &numbers);
-    put_64(state, 56, id);
+    put_numbers(
+        state,
+        24,
+        &[
+            f.accepted as u64,
+            f.status,
+            f.block_size as u64,
+            f.key as u64,
+        ],
+    );
+    put_array(state, 56, f.id);
     put_number(state, 120, f.id_length as u64);
 }
 
 fn put_chain(c: Chain, state: &mut [u8])
     ensures { (state.new ≡ sets state.old 128 (chain_bytes c)) × (length c.hash ≡ 64) }
 {
-    let number = c.number;
-    let hash = c.hash;
-    put_number(state, 128, number.0);
-    put_64(state, 136, hash);
+    put_number(state, 128, c.number.0);
+    put_array(state, 136, c.hash);
 }
 
 fn put_body(h: Midstate, state: &mut [u8])
     ensures { state.new ≡ sets state.old 336 (body_bytes h) }
 {
-    let words = h.words;
-    let rest = h.rest;
-    put_words(state, 336, words);
-    put_64(state, 400, rest);
+    put_words(state, 336, h.words);
+    put_array(state, 400, h.rest);
     put_number(state, 464, h.count);
 }
 
 fn put_extent(e: Extent, state: &mut [u8])
     ensures { (state.new ≡ sets state.old 472 (extent_bytes e)) × InExtent e }
 {
-    let numbers = [
-        extents::kind(e),
-        extents::first_byte(e),
-        extents::last_byte(e),
-        extents::total(e),
-    ];
-    put_numbers(state, 472, &numbers);
+    put_numbers(state, 472, &extents::numbers(e));
 }
 
 // All parts, one after the other. What is then read is the state.
@@ -138,23 +132,18 @@ fn put_all(r: Reader, state: &mut [u8])
     requires { state_size ≤ length state.old }
     ensures { (state.new ≡ sets state.old 0 (encoded r)) × (decoded state.new ≡ r) }
 {
-    let p = r.phase;
-    let fixed = r.fixed;
-    let extent = fixed.extent;
-    let chain = r.chain;
-    let body = chain.body;
-    let line = r.line;
-    put_numbers(state, 0, &[tag(p), first(p), second(p)]);
-    put_fixed(fixed, state);
-    put_chain(chain, state);
-    put_128(state, 200, line);
+    put_numbers(state, 0, &phases::numbers(r.phase));
+    put_fixed(r.fixed, state);
+    put_chain(r.chain, state);
+    put_array(state, 200, r.line);
     put_number(state, 328, r.released as u64);
-    put_body(body, state);
-    put_extent(extent, state);
+    put_body(r.chain.body, state);
+    put_extent(r.fixed.extent, state);
 }
 
 // Writes the state over the front of the buffer. A buffer that is too short is left as it is. `whole` says every byte, and `back`
 // that the same state is then read.
+#[tactic(auto, unfolding(crate::specs::State::stored))]
 pub fn store(r: Reader, state: &mut [u8])
     ensures whole { state.new ≡ stored r state.old }
     ensures back { state_size ≤ length state.old → decoded state.new ≡ r }

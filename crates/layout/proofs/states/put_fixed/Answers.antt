@@ -4,5 +4,5 @@ use Rattle.layout.proofs.states.put_fixed.Goals as goal
 
 pub returns : goal.returns
 returns c =
-    let h = c.put_64.ensures.1 in
-    (fixed_put c.args.f h c.args.state.now _ _ _ c.put_numbers.ensures c.put_64.ensures.0 c.put_number.ensures, h)
+    let h = c.put_array.ensures.1 in
+    (fixed_put c.args.f h c.args.state.now _ _ _ c.put_numbers.ensures c.put_array.ensures.0 c.put_number.ensures, h)
