@@ -9,6 +9,7 @@ use calls::Outcome;
 use layout::STATE_SIZE;
 
 // Whether a state and a result fit buffers of these lengths.
+#[tactic(auto, unfolding(crate::specs::Written::are_long))]
 pub fn are_long(state: usize, res: usize) -> bool
     ensures { result ≡ are_long state res }
 {
@@ -20,9 +21,6 @@ pub fn finish(o: Outcome, state: &mut [u8], res: &mut [u8]) -> u8
     ensures whole { (h b q : List ℕ) → made result state.new h b q res.new ≡ answered state.old res.old (call_of o h b q) }
     ensures back { state_size ≤ length state.old → decoded state.new ≡ o.reader }
 {
-    let word = o.word;
-    let signature = o.signature;
-    let next = o.reader;
-    layout::store(next, state);
-    tell(word, o.taken, signature, res)
+    layout::store(o.reader, state);
+    tell(o.word, o.taken, o.signature, res)
 }
