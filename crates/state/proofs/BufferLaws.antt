@@ -1,10 +1,10 @@
 -- Laws on the front of a buffer: cut at a count that may pass its end, and cleared. Assumes nothing.
-use mathlib.Core.List.{List, [], ◌∷◌, ◌++◌}
+use mathlib.Core.List.{List, [], ◌∷◌}
 use mathlib.Core.Path.{◌≡◌, ap}
 use native.Mathlib.Nat.{zero-min, min-zero, suc-min-suc}
 use native.Mathlib.Omega.{arith}
 use Prim.Native.Nat.{ℕ, zero, suc, min}
-use lib.ListN.{length, drop, take, replicate, length-append, length-replicate, length-drop}
+use lib.ListN.{length, drop, take, length-append, length-replicate, length-drop}
 use Rattle.state.specs.Configuration.{cleared}
 
 -- a count past the end is the length
@@ -17,11 +17,6 @@ pub drop_min : (n : ℕ) (l : List ℕ) → drop (min n (length l)) l ≡ drop n
 drop_min zero l = rw zero-min
 drop_min (suc n) [] = rw min-zero
 drop_min (suc n) (x ∷ l) = rw suc-min-suc (drop_min n l)
-
--- cleared, as a loop from the front leaves it
-pub cleared_to : (n : ℕ) (l : List ℕ) → replicate (min n (length l)) 0 ++ drop (min n (length l)) l ≡ cleared n l
-unfolding cleared
-cleared_to n l = rw drop_min
 
 pub cleared_none : (l : List ℕ) → cleared 0 l ≡ l
 unfolding cleared

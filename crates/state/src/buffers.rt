@@ -6,10 +6,6 @@ ghost use Rattle.state.specs.Configuration.{cleared};
 pub(crate) fn clear(block: &mut [u8], count: usize)
     ensures { block.new ≡ cleared count block.old }
 {
-    let end = places::least(count, block.len());
-    let mut i = 0;
-    while i < end {
-        block[i] = 0;
-        i += 1;
-    }
+    let end = count.min(block.len());
+    block[..end].fill(0);
 }

@@ -34,17 +34,12 @@ pub fn pending(p: Phase) -> usize
     ensures { result ≡ pendingIn p }
 {
     match p {
-        Phase::Head(_) => 0,
-        Phase::HeadAsked(_) => 0,
-        Phase::FirstLine(_) => 0,
-        Phase::Data { have, size: _ } => have,
-        Phase::DataEnd { have: _, size } => size,
-        Phase::NextLine { have: _, size } => size,
-        Phase::BlockAsked { size, next: _ } => size,
-        Phase::Trailer { have, total: _ } => have,
-        Phase::EndAsked { have, total: _ } => have,
-        Phase::Closed(_) => 0,
-        Phase::Complete(_) => 0,
-        Phase::Refused(_) => 0,
+        Phase::Data { have, .. } | Phase::Trailer { have, .. } | Phase::EndAsked { have, .. } =>
+            have,
+        Phase::DataEnd { size, .. }
+        | Phase::NextLine { size, .. }
+        | Phase::BlockAsked { size, .. } => size,
+        Phase::Head(_) | Phase::HeadAsked(_) | Phase::FirstLine(_) => 0,
+        Phase::Closed(_) | Phase::Complete(_) | Phase::Refused(_) => 0,
     }
 }

@@ -1,7 +1,7 @@
 // The reader's state, by subject. It goes in by value and comes back by value; the bytes of head, block and trailer lie in lent
 // buffers.
 ghost use Rattle.std.specs.Prelude.{◌≡◌};
-ghost use Rattle.state.specs.Configuration.{fresh_reader, renewed as renewedReader, in_phase, with_line, with_chain, with_hash};
+ghost use Rattle.state.specs.Configuration.{fresh_reader, in_phase, with_line, with_chain, with_hash};
 
 use crate::phase::Phase;
 use blocks::BlockNumber;
@@ -45,6 +45,7 @@ pub struct Reader {
 }
 
 // A reader before its stream.
+#[tactic(auto, unfolding(crate::specs::Configuration::fresh_reader))]
 pub fn fresh() -> Reader
     ensures { result ≡ fresh_reader }
 {
@@ -71,50 +72,35 @@ pub fn fresh() -> Reader
     }
 }
 
-// The same reader with another phase, line and chain.
-fn renewed(r: Reader, phase: Phase, line: [u8; 128], chain: Chain) -> Reader
-    ensures { result ≡ renewedReader r phase line chain }
-{
-    let fixed = r.fixed;
-    Reader {
-        phase,
-        fixed,
-        chain,
-        line,
-        released: r.released,
-    }
-}
-
+// The same reader with another phase.
 pub fn in_phase(r: Reader, phase: Phase) -> Reader
     ensures { result ≡ in_phase r phase }
 {
-    let line = r.line;
-    let chain = r.chain;
-    renewed(r, phase, line, chain)
+    Reader { phase, ..r }
 }
 
 // The same with another line.
 pub fn with_line(r: Reader, phase: Phase, line: [u8; 128]) -> Reader
     ensures { result ≡ with_line r phase line }
 {
-    let chain = r.chain;
-    renewed(r, phase, line, chain)
+    Reader { phase, line, ..r }
 }
 
 // The same with another chain.
 pub fn with_chain(r: Reader, phase: Phase, chain: Chain) -> Reader
     ensures { result ≡ with_chain r phase chain }
 {
-    let line = r.line;
-    renewed(r, phase, line, chain)
+    Reader { phase, chain, ..r }
 }
 
 // The same with another hash, and another body.
 pub fn with_hash(r: Reader, phase: Phase, hash: [u8; 64], body: Midstate) -> Reader
     ensures { result ≡ with_hash r phase hash body }
 {
-    let line = r.line;
-    let before = r.chain;
-    let number = before.number;
-    renewed(r, phase, line, Chain { number, hash, body })
+    let chain = Chain {
+        hash,
+        body,
+        ..r.chain
+    };
+    Reader { phase, chain, ..r }
 }

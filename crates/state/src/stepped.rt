@@ -23,12 +23,13 @@ pub fn said(word: Word, r: Reader) -> Stepped
 {
     Stepped {
         word,
-        signature: [0u8; 64],
+        signature: [0; 64],
         reader: r,
     }
 }
 
 // A final refusal: the first `count` bytes of the block buffer, those that are pending, are set to zero.
+#[tactic(auto, unfolding(crate::specs::Configuration::refuse))]
 pub fn refused(r: Reader, block: &mut [u8], count: usize, why: Refusal) -> Stepped
     ensures { (h q : List ℕ) → next_of result h block.new q ≡ refuse why count (configuration r h block.old q) }
 {

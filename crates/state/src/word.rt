@@ -21,16 +21,5 @@ pub enum Word {
 pub fn goes_on(w: Word) -> bool
     ensures { result ≡ goes_on w }
 {
-    match w {
-        Word::More => true,
-        Word::Question { length: _, key: _ } => false,
-        Word::Head(_) => false,
-        Word::Block {
-            offset: _,
-            length: _,
-        } => false,
-        Word::Closed(_) => false,
-        Word::Complete(_) => false,
-        Word::Refused(_) => false,
-    }
+    matches!(w, Word::More)
 }
