@@ -1,12 +1,9 @@
--- Laws on what a call gives: its last step, the phase that the code has taken apart, and the number of the block after. Assumes
--- nothing.
+-- Laws on what a call gives: its last step, and the phase that the code has taken apart. Assumes nothing.
 use mathlib.Core.Bool.{Bool, true, false}
 use mathlib.Core.List.{List}
 use mathlib.Core.Path.{◌≡◌, refl, sym, ap, ◌∙◌}
 use native.Mathlib.Omega.{arith}
-use Prim.Native.Nat.{ℕ, ◌+◌, ◌≤◌, min}
-use Rattle.blocks.specs.Place.{largest}
-use Rattle.blocks.specs.declared.offsets.BlockNumber.{BlockNumber}
+use Prim.Native.Nat.{ℕ}
 use Rattle.octets.specs.Choice.{pick}
 use Rattle.refusals.specs.declared.Refusal.{Refusal}
 use Rattle.state.specs.Configuration.{Configuration, configuration, goes_on, next_of, Next, on, stop, refuse}
@@ -14,7 +11,7 @@ use Rattle.state.specs.declared.phase.Phase.{Phase}
 use Rattle.state.specs.declared.phase.Phase.TheVariants as P
 use Rattle.state.specs.declared.stepped.Stepped.{Stepped}
 use Rattle.state.specs.declared.word.Word.{Word}
-use Rattle.calls.specs.Answer.{answer_at, following}
+use Rattle.calls.specs.Answer.{answer_at}
 use Rattle.calls.specs.Response.{Response, response, given, unchanged}
 
 pub no : {A : Type 0} → ◌≡◌ {A = Bool} false true → A
@@ -60,13 +57,3 @@ no_question (P.EndAsked have total) d good h k l = absurd (l have total refl)
 no_question (P.Closed total) d good h k l = refl
 no_question (P.Complete total) d good h k l = refl
 no_question (P.Refused n) d good h k l = refl
-
--- ---- the number of the block after
-
-pub following_last : (i : BlockNumber) → i.0 ≡ largest → record { 0 = largest } ≡ following i
-unfolding following
-following_last i e = let m : min (i.0 + 1) largest ≡ largest = omega arith in rw m
-
-pub following_next : (i : BlockNumber) → i.0 + 1 ≤ largest → record { 0 = i.0 + 1 } ≡ following i
-unfolding following
-following_next i e = let m : min (i.0 + 1) largest ≡ i.0 + 1 = omega arith in rw m

@@ -40,9 +40,11 @@ pub fn unchanged(r: Reader, number: u8) -> Outcome
 pub fn ended(s: Stepped, taken: usize) -> Outcome
     ensures { result ≡ record { word = s.word; taken = taken; signature = s.signature; reader = s.reader } }
 {
-    let word = s.word;
-    let signature = s.signature;
-    let reader = s.reader;
+    let Stepped {
+        word,
+        signature,
+        reader,
+    } = s;
     Outcome {
         word,
         taken,
@@ -52,6 +54,7 @@ pub fn ended(s: Stepped, taken: usize) -> Outcome
 }
 
 // Whether buffers of these lengths have the room that every call asks.
+#[tactic(auto, unfolding(crate::specs::Response::are_roomy))]
 pub fn are_roomy(head: usize, block: usize, question: usize) -> bool
     ensures { result ≡ are_roomy head block question }
 {
@@ -62,27 +65,20 @@ pub fn are_roomy(head: usize, block: usize, question: usize) -> bool
 pub fn is_reading(p: Phase) -> bool
     ensures { result ≡ is_reading p }
 {
-    match p {
-        Phase::Head(_) => true,
-        Phase::HeadAsked(_) => false,
-        Phase::FirstLine(_) => true,
-        Phase::Data { have: _, size: _ } => true,
-        Phase::DataEnd { have: _, size: _ } => true,
-        Phase::NextLine { have: _, size: _ } => true,
-        Phase::BlockAsked { size: _, next: _ } => false,
-        Phase::Trailer { have: _, total: _ } => true,
-        Phase::EndAsked { have: _, total: _ } => false,
-        Phase::Closed(_) => false,
-        Phase::Complete(_) => false,
-        Phase::Refused(_) => false,
-    }
+    matches!(
+        p,
+        Phase::Head(_)
+            | Phase::FirstLine(_)
+            | Phase::Data { .. }
+            | Phase::DataEnd { .. }
+            | Phase::NextLine { .. }
+            | Phase::Trailer { .. }
+    )
 }
 
 // The same reader with no block handed out.
 pub fn recalled(r: Reader) -> Reader
     ensures { result ≡ taking_back r }
 {
-    let mut reader = r;
-    reader.released = 0;
-    reader
+    Reader { released: 0, ..r }
 }

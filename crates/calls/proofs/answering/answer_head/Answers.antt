@@ -1,4 +1,4 @@
--- Each return is one case of the definition. Assumes nothing.
+-- Nothing is pending, so that nothing is cleared. Assumes nothing.
 use Rattle.state.specs.Configuration.{refuse}
 use Rattle.state.proofs.BufferLaws.{cleared_none}
 use Rattle.calls.specs.Answer.{head_answer}
@@ -7,7 +7,3 @@ use Rattle.calls.proofs.answering.answer_head.Goals as goal
 pub returns-then-not-good : goal.returns-then-not-good
 unfolding head_answer refuse
 returns-then-not-good c = λ h b q. rw (c.told.ensures, c.in_phase.ensures, c.plain-why.ensures, c.if-not-good.true, cleared_none)
-
-pub returns : goal.returns
-unfolding head_answer
-returns c = λ h b q. rw (c.told-2.ensures, c.accepted.ensures, c.if-not-good.false)
