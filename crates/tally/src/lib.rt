@@ -2,7 +2,7 @@
 #![tactic(auto)]
 
 ghost use Rattle.std.specs.Prelude.{◌≡◌};
-ghost use Rattle.tally.specs.Counting.{no_counts, grown as grownBy, with_block, with_closed, with_refused, refused_by, tallied_after};
+ghost use Rattle.tally.specs.Counting.{no_counts, with_block, with_closed, with_refused, refused_by, tallied_after};
 
 use state::Word;
 
@@ -27,58 +27,49 @@ pub fn zero() -> Tally
     }
 }
 
-// A count with so many more, or the largest count where that would pass it.
-fn grown(count: u64, more: u64) -> u64
-    ensures { result ≡ grownBy count more }
-{
-    if u64::MAX - count < more {
-        return u64::MAX;
-    }
-    count + more
-}
-
-// One block more, of so many bytes.
+// One block more, of so many bytes. A count that would pass its largest value stays there.
 fn with_block(t: Tally, length: usize) -> Tally
     ensures { result ≡ with_block t length }
 {
-    let mut tally = t;
-    tally.blocks = grown(t.blocks, 1);
-    tally.bytes = grown(t.bytes, length as u64);
-    tally
+    Tally {
+        blocks: t.blocks.saturating_add(1),
+        bytes: t.bytes.saturating_add(length as u64),
+        ..t
+    }
 }
 
 // One stream more that closed, or was complete.
 fn with_closed(t: Tally) -> Tally
     ensures { result ≡ with_closed t }
 {
-    let mut tally = t;
-    tally.closed = grown(t.closed, 1);
-    tally
+    Tally {
+        closed: t.closed.saturating_add(1),
+        ..t
+    }
 }
 
 // One stream more that was refused; 1 and 2 refuse a call and no stream.
 fn with_refused(t: Tally, number: u8) -> Tally
     ensures { result ≡ refused_by t number }
 {
-    if (number == 1) | (number == 2) {
-        return t;
+    match number {
+        1 | 2 => t,
+        _ => Tally {
+            refused: t.refused.saturating_add(1),
+            ..t
+        },
     }
-    let mut tally = t;
-    tally.refused = grown(t.refused, 1);
-    tally
 }
 
 // The tally after a call that says the word, by value.
+#[tactic(auto, unfolding(crate::specs::Counting::tallied_after))]
 pub fn counted(t: Tally, word: Word) -> Tally
     ensures { result ≡ tallied_after t word }
 {
     match word {
-        Word::More => t,
-        Word::Question { length: _, key: _ } => t,
-        Word::Head(_) => t,
-        Word::Block { offset: _, length } => with_block(t, length),
-        Word::Closed(_) => with_closed(t),
-        Word::Complete(_) => with_closed(t),
+        Word::More | Word::Question { .. } | Word::Head(_) => t,
+        Word::Block { length, .. } => with_block(t, length),
+        Word::Closed(_) | Word::Complete(_) => with_closed(t),
         Word::Refused(why) => with_refused(t, why.number),
     }
 }
