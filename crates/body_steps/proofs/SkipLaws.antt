@@ -18,21 +18,21 @@ min_assoc : (k m n : ℕ) → min (min k m) n ≡ min k (min m n)
 min_assoc k m n = omega arith
 
 -- the run is written from the place `have` on: `end` bytes of xs, as far as there is room
-module _ (have most end next : ℕ) (b b' xs : List ℕ) (f : end ≡ min most (length xs)) (e : placed next b' ≡ wrote b have (take (end - 0) xs)) where
-  long : length (take (end - 0) xs) ≡ min most (length xs)
-  long = omega (arith, length-take (end - 0) xs)
+module _ (have most end next : ℕ) (b b' xs : List ℕ) (f : end ≡ min most (length xs)) (e : placed next b' ≡ wrote b have (take end xs)) where
+  long : length (take end xs) ≡ min most (length xs)
+  long = omega (arith, length-take end xs)
 
-  run_is : min (length (take (end - 0) xs)) (length b - have) ≡ room b have xs most
+  run_is : min (length (take end xs)) (length b - have) ≡ room b have xs most
   run_is = rw long (min_assoc most (length xs) (length b - have))
 
   next_from : next ≡ have + room b have xs most
-  next_from = next_is b have (take (end - 0) xs) next b' e ∙ rw run_is
+  next_from = next_is b have (take end xs) next b' e ∙ rw run_is
 
   pub goes_up : have ≤ next
   goes_up = omega (arith, next_from)
 
   block_is : b' ≡ paste b have xs (room b have xs most)
-  block_is = bytes_are b have (take (end - 0) xs) next b' e ∙ rw (run_is, take-take (room b have xs most) (end - 0) xs (omega arith))
+  block_is = bytes_are b have (take end xs) next b' e ∙ rw (run_is, take-take (room b have xs most) end xs (omega arith))
 
   pub skipped_is : (r : Reader) (size : ℕ) → most ≡ size - have - 1 → skip_to (in_phase r (P.Data next size)) (next - have) b' ≡ skipped_data have size r b xs
   unfolding skipped_data

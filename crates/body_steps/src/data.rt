@@ -7,6 +7,7 @@ use refusals::Refusal;
 use state::{Phase, Reader, Stepped, Word, in_phase, refused, said, with_line};
 
 // A byte of a block's data, of which `have` bytes out of `size` have come. It has no room where the buffer is too short.
+#[tactic(auto, unfolding(crate::specs::Data::push_data))]
 pub fn push_data(r: Reader, block: &mut [u8], have: usize, size: usize, x: u8) -> Stepped
     ensures { (h q : List ℕ) → next_of result h block.new q ≡ push_data (configuration r h block.old q) have size x }
 {
@@ -22,6 +23,7 @@ pub fn push_data(r: Reader, block: &mut [u8], have: usize, size: usize, x: u8) -
 }
 
 // A byte after a block of `size` bytes. The first is kept, and judged with the second.
+#[tactic(auto, unfolding(crate::specs::Data::push_data_end, stream::specs::GoodText::is_good_data_end, stream::specs::Places::data_end_place))]
 pub fn push_data_end(r: Reader, block: &mut [u8], have: usize, size: usize, x: u8) -> Stepped
     ensures { (h q : List ℕ) → next_of result h block.new q ≡ push_data_end (configuration r h block.old q) have size x }
 {

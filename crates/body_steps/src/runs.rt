@@ -14,9 +14,9 @@ pub struct Passed {
 fn skip_data(r: Reader, block: &mut [u8], have: usize, size: usize, rest: &[u8]) -> Passed
     ensures { passed_of result block.new ≡ skipped_data have size r block.old rest.now }
 {
-    let most = places::less(places::less(size, have), 1);
-    let end = places::least(most, rest.len());
-    let next = places::put(block, have, &rest[0..end]);
+    let most = size.saturating_sub(have).saturating_sub(1);
+    let end = most.min(rest.len());
+    let next = places::put(block, have, &rest[..end]);
     let reader = in_phase(r, Phase::Data { have: next, size });
     Passed {
         reader,
@@ -28,8 +28,7 @@ fn skip_data(r: Reader, block: &mut [u8], have: usize, size: usize, rest: &[u8])
 pub fn skip(r: Reader, block: &mut [u8], rest: &[u8]) -> Passed
     ensures { passed_of result block.new ≡ skipped r block.old rest.now }
 {
-    let phase = r.phase;
-    let Phase::Data { have, size } = phase else {
+    let Phase::Data { have, size } = r.phase else {
         return Passed {
             reader: r,
             taken: 0,
