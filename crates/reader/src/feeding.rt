@@ -19,6 +19,7 @@ fn not_due(r: Reader) -> Stepped
 }
 
 // One byte, by the phase.
+#[tactic(auto, unfolding(crate::specs::Feed::push_at))]
 fn push(
     r: Reader,
     head: &mut [u8],
@@ -30,24 +31,19 @@ fn push(
 ) -> Stepped
     ensures { next_of result head.new block.new question.new ≡ push_byte (terms_of ring uri.now) (configuration r head.old block.old question.old) x }
 {
-    let phase = r.phase;
-    match phase {
+    match r.phase {
         Phase::Head(have) => head_steps::push_head(r, head, question, ring, uri, have, x),
-        Phase::HeadAsked(_) => not_due(r),
         Phase::FirstLine(have) => line_steps::push_first_line(r, have, x),
         Phase::Data { have, size } => body_steps::push_data(r, block, have, size, x),
         Phase::DataEnd { have, size } => body_steps::push_data_end(r, block, have, size, x),
         Phase::NextLine { have, size } => line_steps::push_next_line(
             r, block, question, have, size, x,
         ),
-        Phase::BlockAsked { size: _, next: _ } => not_due(r),
         Phase::Trailer { have, total } => trailer_steps::push_trailer(
             r, head, block, question, have, total, x,
         ),
-        Phase::EndAsked { have: _, total: _ } => not_due(r),
-        Phase::Closed(_) => not_due(r),
-        Phase::Complete(_) => not_due(r),
-        Phase::Refused(_) => not_due(r),
+        Phase::HeadAsked(_) | Phase::BlockAsked { .. } | Phase::EndAsked { .. } => not_due(r),
+        Phase::Closed(_) | Phase::Complete(_) | Phase::Refused(_) => not_due(r),
     }
 }
 
@@ -87,6 +83,7 @@ fn take(
 }
 
 // Takes a piece of the stream, up to the byte that leads to an event.
+#[tactic(auto, unfolding(crate::specs::Feed::feed_of))]
 pub fn feed(
     r: Reader,
     head: &mut [u8],
@@ -104,8 +101,7 @@ pub fn feed(
     if RING_LIMIT < ring.count {
         return unchanged(r, 2);
     }
-    let phase = r.phase;
-    if !is_reading(phase) {
+    if !is_reading(r.phase) {
         return unchanged(r, 1);
     }
     take(recalled(r), head, block, question, ring, uri, piece)
