@@ -4,11 +4,12 @@ use mathlib.Core.Bool.{Bool, true, false, ◌&&◌}
 use mathlib.Core.List.{List, [], ◌∷◌, ◌++◌, map}
 use Prim.Native.Nat.{ℕ, zero, suc, ◌+◌, ◌<◌, ◌≤◌, min}
 use native.Mathlib.Nat.{not-suc-le-zero, le_of_suc-le-suc}
+use native.Mathlib.Numerals.{add-one}
 use native.Mathlib.Omega.{arith}
 use borrow.Author.Tests.{ltb-true, ltb-false, leb-true, leb-false, le-ltb, le-leb, lt-leb}
 use lib.Dec.{leb, ltb}
 use lib.ListN.{length, set, take, get_or, replicate, length-append, length-take}
-use lib.Seq.{take-suc}
+use lib.Seq.{take-suc, take_all}
 use Rattle.octets.specs.Choice.{pick}
 use Rattle.ring.specs.Keys.{trusted_of, ring_of, keys_with, no_record, no_keys}
 use Rattle.ring.specs.declared.KeyRecord.{KeyRecord}
@@ -83,13 +84,14 @@ keys_more : (ks : List KeyRecord) (k : KeyRecord) → with_next (keys_of ks) k �
 keys_more ks k = next_at ks k (ltb (length ks) ring_limit) refl
 
 -- a turn: of the first i records, and the one after them
-pub keys_next : (ks : List KeyRecord) (i : ℕ) (d : KeyRecord) → i < length ks → with_next (keys_of (take i ks)) (get_or ks i d) ≡ keys_of (take (suc i) ks)
-keys_next ks i d h = keys_more (take i ks) (get_or ks i d) ∙ ap keys_of (sym (take-suc ks i d h))
+pub keys_next : (ks : List KeyRecord) (i : ℕ) (d : KeyRecord) (r s : KeyRing) → i < length ks → r ≡ keys_of (take i ks) → s ≡ with_next r (get_or ks i d) → s ≡ keys_of (take (i + 1) ks)
+keys_next ks i d r s h e f = f ∙ rw (e, add-one) (keys_more (take i ks) (get_or ks i d) ∙ ap keys_of (sym (take-suc ks i d h)))
 
 -- the end: those that are looked at tell all
-pub keys_looked : (ks : List KeyRecord) → keys_of (take (looked (length ks)) ks) ≡ keys_of ks
+pub keys_looked : (ks : List KeyRecord) (n i : ℕ) (r : KeyRing) → n ≡ looked (length ks) → length (take n ks) ≤ i → r ≡ keys_of (take i (take n ks)) → r ≡ keys_of ks
 unfolding keys_of
-keys_looked ks = ring_same (rw (length-take (looked (length ks)) ks) (omega arith)) (placed_front ring_limit (looked (length ks)) ks (omega arith))
+keys_looked ks n i r e h f =
+    f ∙ rw (take_all i (take n ks) h, e) (ring_same (rw (length-take (looked (length ks)) ks) (omega arith)) (placed_front ring_limit (looked (length ks)) ks (omega arith)))
 
 -- ---- a feed
 

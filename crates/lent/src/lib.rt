@@ -23,22 +23,21 @@ fn no_records() -> KeyRing
 fn looked_at(count: usize) -> usize
     ensures { result ≡ looked count }
 {
-    if RING_LIMIT < count {
-        return RING_LIMIT + 1;
-    }
-    count
+    count.min(RING_LIMIT + 1)
 }
 
 // The ring with one record more, or with a count over its limit where there is no room for it.
+#[tactic(auto, unfolding(crate::specs::Table::with_next))]
 fn with_next(ring: KeyRing, entry: KeyRecord) -> KeyRing
     ensures { result ≡ with_next ring entry }
 {
     if ring.count < RING_LIMIT {
         return ring::added(ring, entry);
     }
-    let mut over = ring;
-    over.count = RING_LIMIT + 1;
-    over
+    KeyRing {
+        count: RING_LIMIT + 1,
+        ..ring
+    }
 }
 
 // The ring of the lent records.
@@ -46,11 +45,9 @@ fn ring_of(records: &[KeyRecord]) -> KeyRing
     ensures { result ≡ keys_of records.now }
 {
     let mut ring = no_records();
-    let count = looked_at(records.len());
-    let mut i = 0;
-    while i < count {
-        ring = with_next(ring, records[i]);
-        i += 1;
+    let looked = &records[..looked_at(records.len())];
+    for entry in looked {
+        ring = with_next(ring, *entry);
     }
     ring
 }
