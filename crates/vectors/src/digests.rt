@@ -1,68 +1,79 @@
-// SHA-512: the messages of FIPS 180-4's examples, lengths around the end of a block, and the hash chain of the published example.
-use crate::lines::{say, say_hex, say_number};
+// SHA-512 and SHA-256: the messages of FIPS 180-4's examples, and lengths around the end of a block; and the hash chain of the published example.
+use crate::lines::Hex;
+use std::fmt::Display;
 use std::io;
 
-fn say_digest(rt: &impl Print, d: [u8; 64]) -> io::Result<()> {
-    say_hex(rt, &d)?;
-    say(rt, b"\n")
+const SHORT_MESSAGE: &str = "abcdbcdecdefdefgefghfghighijhijkijkljklmklmnlmnomnopnopq";
+
+const LONG_MESSAGE: &str =
+    "abcdefghbcdefghicdefghijdefghijkefghijklfghijklmghijklmnhijklmnoijklmnopjklmnopqklmnopqrlmnopqrsmnopqrstnopqrstu";
+
+// The hash function that a line is of.
+#[derive(Clone, Copy)]
+enum Function {
+    Sha512,
+    Sha256,
 }
 
-fn digest(rt: &impl Print, name: &[u8], message: &[u8]) -> io::Result<()> {
-    say(rt, b"sha512 ")?;
-    say(rt, name)?;
-    say(rt, b" ")?;
-    let d = hash::sha512(message);
-    say_digest(rt, d)
-}
-
-// The first n of a run of the letter a.
-fn letters(rt: &impl Print, run: &[u8], n: usize) -> io::Result<()> {
-    if run.len() < n {
-        return Ok(());
+impl Function {
+    // A message's hash, behind what the line says of the message.
+    fn line(self, rt: &impl Print, what: impl Display + Drop, message: &[u8]) -> io::Result<()> {
+        match self {
+            Function::Sha512 => println!(rt; "sha512 {what} {}", Hex(&hash::sha512(message))),
+            Function::Sha256 => println!(rt; "sha256 {what} {}", Hex(&sha256::sha256(message))),
+        }
     }
-    say(rt, b"sha512 of ")?;
-    say_number(rt, n)?;
-    say(rt, b" times a ")?;
-    let d = hash::sha512(&run[..n]);
-    say_digest(rt, d)
+
+    fn messages(self, rt: &impl Print, all: &[(&str, &str)]) -> io::Result<()> {
+        for (what, message) in all {
+            self.line(rt, *what, message.as_bytes())?;
+        }
+        Ok(())
+    }
+
+    // Messages of so many letters a.
+    fn letters(self, rt: &(impl Print + Alloc), counts: &[usize]) -> io::Result<()> {
+        for n in counts {
+            let message = vec![in rt.alloc(); b'a'; *n]?;
+            self.line(rt, format_args!("of {n} times a"), &message)?;
+        }
+        Ok(())
+    }
 }
 
-// Lent as an array, the million letters need no count of them in the proof.
-fn million(rt: &impl Print, run: &[u8; 1000000]) -> io::Result<()> {
-    letters(rt, run, 1000000)
+pub fn sha512_lines(rt: &(impl Print + Alloc)) -> io::Result<()> {
+    println!(rt; "SHA-512, FIPS 180-4")?;
+    let messages = [
+        ("\"\"", ""),
+        ("\"abc\"", "abc"),
+        ("of the 896 bit message", LONG_MESSAGE),
+    ];
+    Function::Sha512.messages(rt, &messages)?;
+    Function::Sha512.letters(rt, &[111, 112, 127, 128, 239, 240, 1000000])
 }
 
-pub fn messages(rt: &impl Print) -> io::Result<()> {
-    say(rt, b"SHA-512, FIPS 180-4\n")?;
-    digest(rt, b"\"\"", b"")?;
-    digest(rt, b"\"abc\"", b"abc")?;
-    digest(
-        rt,
-        b"of the 896 bit message",
-        b"abcdefghbcdefghicdefghijdefghijkefghijklfghijklmghijklmnhijklmnoijklmnopjklmnopqklmnopqrlmnopqrsmnopqrstnopqrstu",
-    )?;
-    let run = [b'a'; 240];
-    letters(rt, &run, 111)?;
-    letters(rt, &run, 112)?;
-    letters(rt, &run, 127)?;
-    letters(rt, &run, 128)?;
-    letters(rt, &run, 239)?;
-    letters(rt, &run, 240)?;
-    million(rt, &[b'a'; 1000000])
+pub fn sha256_lines(rt: &(impl Print + Alloc)) -> io::Result<()> {
+    println!(rt; "\nSHA-256, FIPS 180-4")?;
+    let messages = [
+        ("\"\"", ""),
+        ("\"abc\"", "abc"),
+        ("of the 448 bit message", SHORT_MESSAGE),
+        ("of the 896 bit message", LONG_MESSAGE),
+    ];
+    Function::Sha256.messages(rt, &messages)?;
+    Function::Sha256.letters(rt, &[55, 56, 63, 64, 65, 119, 120, 128, 1000000])
 }
 
 pub fn chain(rt: &impl Print) -> io::Result<()> {
-    say(
-        rt,
-        b"\nHash chain of \"Hello world!\" in blocks of 5 bytes\n",
-    )?;
-    let first = hash::sha512(b"Hello");
-    say(rt, b"hash(0) ")?;
-    say_digest(rt, first)?;
-    let second = hash::sha512_after(first, b" worl");
-    say(rt, b"hash(1) ")?;
-    say_digest(rt, second)?;
-    let third = hash::sha512_after(second, b"d!");
-    say(rt, b"hash(2) ")?;
-    say_digest(rt, third)
+    println!(rt; "\nHash chain of \"Hello world!\" in blocks of 5 bytes")?;
+    let mut before = None;
+    for (i, block) in b"Hello world!".chunks(5).enumerate() {
+        let digest = match before {
+            None => hash::sha512(block),
+            Some(d) => hash::sha512_after(d, block),
+        };
+        println!(rt; "hash({i}) {}", Hex(&digest))?;
+        before = Some(digest);
+    }
+    Ok(())
 }

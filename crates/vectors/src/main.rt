@@ -10,10 +10,10 @@ mod texts;
 use std::io;
 
 fn main(rt: HostRuntime) -> io::Result<()> {
-    digests::messages(&rt)?;
+    digests::sha512_lines(&rt)?;
     digests::chain(&rt)?;
+    digests::sha256_lines(&rt)?;
     parts::messages(&rt)?;
-    parts::in_parts(&rt)?;
     texts::short_texts(&rt)?;
     texts::keys(&rt)?;
     texts::signatures(&rt)?;

@@ -1,130 +1,103 @@
 // Base64: RFC 4648's own examples, and texts of 32 and 64 bytes that are good, or bad in one place, and how far these go well.
-use crate::lines::{say, say_hex, say_number};
-use std::io;
+use crate::lines::Hex;
+use std::{fmt, io};
 
 // What a buffer is filled with beforehand, to see whether a refusal leaves it alone.
 const MARK: u8 = 170;
 
-fn untouched(buffer: &[u8]) -> bool {
-    for b in buffer {
-        if *b != MARK {
-            return false;
-        }
-    }
-    true
+fn is_untouched(buffer: &[u8]) -> bool {
+    buffer.iter().all(|b| *b == MARK)
 }
 
 // How a text was answered, and what the buffer then holds.
-fn say_answer(rt: &impl Print, ok: bool, buffer: &[u8]) -> io::Result<()> {
-    if ok {
-        say(rt, b": ok [")?;
-        say_hex(rt, buffer)?;
-        return say(rt, b"]\n");
-    }
-    if untouched(buffer) {
-        return say(rt, b": refused, buffer as it was\n");
-    }
-    say(rt, b": refused, buffer changed\n")
+#[derive(Clone, Copy)]
+struct Answer<'a> {
+    ok: bool,
+    buffer: &'a [u8],
 }
 
-// A text read as many bytes as the buffer has.
-fn read(rt: &impl Print, text: &[u8], buffer: &mut [u8]) -> io::Result<()> {
-    let ok = base64_text::decode(text, buffer);
-    say_number(rt, buffer.len())?;
-    say(rt, b" bytes \"")?;
-    say(rt, text)?;
-    say(rt, b"\"")?;
-    say_answer(rt, ok, buffer)
+impl fmt::Display for Answer<'_> {
+    fn fmt<W: fmt::Write>(&self, f: &mut fmt::Formatter<W>) -> fmt::Result {
+        if self.ok {
+            return write!(f, "ok [{}]", Hex(self.buffer));
+        }
+        if is_untouched(self.buffer) {
+            return write!(f, "refused, buffer as it was");
+        }
+        write!(f, "refused, buffer changed")
+    }
 }
 
-pub fn short_texts(rt: &impl Print) -> io::Result<()> {
-    say(rt, b"\nBase64, RFC 4648\n")?;
-    read(rt, b"", &mut [MARK; 0])?;
-    read(rt, b"Zg==", &mut [MARK; 1])?;
-    read(rt, b"Zm8=", &mut [MARK; 2])?;
-    read(rt, b"Zm9v", &mut [MARK; 3])?;
-    read(rt, b"Zm9vYg==", &mut [MARK; 4])?;
-    read(rt, b"Zm9vYmE=", &mut [MARK; 5])?;
-    read(rt, b"Zm9vYmFy", &mut [MARK; 6])?;
+// A text read as n bytes.
+fn read(rt: &(impl Print + Alloc), text: &str, n: usize) -> io::Result<()> {
+    let mut buffer = vec![in rt.alloc(); MARK; n]?;
+    let ok = base64_text::decode(text.as_bytes(), &mut buffer);
+    let buffer = &buffer;
+    println!(rt; "{n} bytes \"{text}\": {}", Answer { ok, buffer })
+}
+
+pub fn short_texts(rt: &(impl Print + Alloc)) -> io::Result<()> {
+    println!(rt; "\nBase64, RFC 4648")?;
+    read(rt, "", 0)?;
+    read(rt, "Zg==", 1)?;
+    read(rt, "Zm8=", 2)?;
+    read(rt, "Zm9v", 3)?;
+    read(rt, "Zm9vYg==", 4)?;
+    read(rt, "Zm9vYmE=", 5)?;
+    read(rt, "Zm9vYmFy", 6)?;
     // 54, 21, 248
-    read(rt, b"NhX4", &mut [MARK; 3])?;
+    read(rt, "NhX4", 3)?;
     // spare bits set, a letter after padding, padding for a letter, too few bytes
-    read(rt, b"Zh==", &mut [MARK; 1])?;
-    read(rt, b"Zm9=", &mut [MARK; 2])?;
-    read(rt, b"Zg=A", &mut [MARK; 1])?;
-    read(rt, b"Zm9=", &mut [MARK; 3])?;
-    read(rt, b"Zg==", &mut [MARK; 2])
+    read(rt, "Zh==", 1)?;
+    read(rt, "Zm9=", 2)?;
+    read(rt, "Zg=A", 1)?;
+    read(rt, "Zm9=", 3)?;
+    read(rt, "Zg==", 2)
 }
 
-fn mark(buffer: &mut [u8]) {
-    for b in buffer.iter_mut() {
-        *b = MARK;
-    }
-}
-
-// The first n characters of a text: says n where they are read, and says so if a refusal changes the buffer.
-fn beginning(rt: &impl Print, text: &[u8], n: usize, buffer: &mut [u8]) -> io::Result<()> {
-    if text.len() < n {
-        return Ok(());
-    }
-    mark(buffer);
-    if base64_text::decode(&text[..n], buffer) {
-        say(rt, b" ")?;
-        return say_number(rt, n);
-    }
-    if !untouched(buffer) {
-        say(rt, b" changed")?;
-    }
-    Ok(())
-}
-
-// Each beginning of a text, up to 90 characters.
+// At how many of its first characters a text is the base64 of as many bytes as the buffer has, and where a refusal changes the buffer.
 fn beginnings(rt: &impl Print, text: &[u8], buffer: &mut [u8]) -> io::Result<()> {
-    say(rt, b"of its beginnings of 0 to 90 characters ok at:")?;
-    for n in 0..=90 {
-        beginning(rt, text, n, buffer)?;
+    print!(rt; "of its beginnings of 0 to 90 characters ok at:")?;
+    for n in 0..=text.len().min(90) {
+        buffer.fill(MARK);
+        if base64_text::decode(&text[..n], buffer) {
+            print!(rt; " {n}")?;
+        } else if !is_untouched(buffer) {
+            print!(rt; " changed")?;
+        }
     }
-    say(rt, b"\n")
+    println!(rt)
 }
 
-fn key(rt: &impl Print, name: &[u8], text: &[u8], buffer: &mut [u8; 32]) -> io::Result<()> {
-    let ok = base64_text::key(text, buffer);
-    say(rt, name)?;
-    say_answer(rt, ok, buffer)
-}
+// Texts of a key, each with what the line says of it.
+const KEYS: [(&str, &str); 5] = [
+    ("good", "yMnKy8zNzs/Q0dLT1NXW19jZ2tvc3d7f4OHi4+Tl5uc="),
+    (
+        "a byte that is no letter",
+        "yMnKy8zNzs/Q0dLT1NXW1-jZ2tvc3d7f4OHi4+Tl5uc=",
+    ),
+    (
+        "a letter for the padding",
+        "yMnKy8zNzs/Q0dLT1NXW19jZ2tvc3d7f4OHi4+Tl5ucA",
+    ),
+    (
+        "padding for a letter",
+        "yMnKy8zNzs/Q0dLT1NXW19jZ2tvc3d7f4OHi4+Tl5u==",
+    ),
+    (
+        "spare bits set",
+        "yMnKy8zNzs/Q0dLT1NXW19jZ2tvc3d7f4OHi4+Tl5ud=",
+    ),
+];
 
 pub fn keys(rt: &impl Print) -> io::Result<()> {
-    say(rt, b"\nBase64 of a key, 32 bytes\n")?;
-    key(
-        rt,
-        b"good",
-        b"yMnKy8zNzs/Q0dLT1NXW19jZ2tvc3d7f4OHi4+Tl5uc=",
-        &mut [MARK; 32],
-    )?;
-    key(
-        rt,
-        b"a byte that is no letter",
-        b"yMnKy8zNzs/Q0dLT1NXW1-jZ2tvc3d7f4OHi4+Tl5uc=",
-        &mut [MARK; 32],
-    )?;
-    key(
-        rt,
-        b"a letter for the padding",
-        b"yMnKy8zNzs/Q0dLT1NXW19jZ2tvc3d7f4OHi4+Tl5ucA",
-        &mut [MARK; 32],
-    )?;
-    key(
-        rt,
-        b"padding for a letter",
-        b"yMnKy8zNzs/Q0dLT1NXW19jZ2tvc3d7f4OHi4+Tl5u==",
-        &mut [MARK; 32],
-    )?;
-    key(
-        rt,
-        b"spare bits set",
-        b"yMnKy8zNzs/Q0dLT1NXW19jZ2tvc3d7f4OHi4+Tl5ud=",
-        &mut [MARK; 32],
-    )?;
+    println!(rt; "\nBase64 of a key, 32 bytes")?;
+    for (what, text) in KEYS {
+        let mut buffer = [MARK; 32];
+        let ok = base64_text::key(text.as_bytes(), &mut buffer);
+        let buffer = &buffer;
+        println!(rt; "{what}: {}", Answer { ok, buffer })?;
+    }
     beginnings(
         rt,
         b"yMnKy8zNzs/Q0dLT1NXW19jZ2tvc3d7f4OHi4+Tl5uc=AwoRGB8mLTQ7QklQV15lbHN6gYiPlp2kq7K5wMfO1d",
@@ -132,44 +105,38 @@ pub fn keys(rt: &impl Print) -> io::Result<()> {
     )
 }
 
-fn signature(rt: &impl Print, name: &[u8], text: &[u8], buffer: &mut [u8; 64]) -> io::Result<()> {
-    let ok = base64_text::signature(text, buffer);
-    say(rt, name)?;
-    say_answer(rt, ok, buffer)
-}
+// Texts of a signature.
+const SIGNATURES: [(&str, &str); 5] = [
+    (
+        "good",
+        "AwoRGB8mLTQ7QklQV15lbHN6gYiPlp2kq7K5wMfO1dzj6vH4/wYNFBsiKTA3PkVMU1phaG92fYSLkpmgp661vA==",
+    ),
+    (
+        "a byte that is no letter",
+        "AwoRGB8mLTQ7QklQV15lbHN6gYiPlp2kq7K5wMfO1dzj6vH4_wYNFBsiKTA3PkVMU1phaG92fYSLkpmgp661vA==",
+    ),
+    (
+        "a letter for the padding",
+        "AwoRGB8mLTQ7QklQV15lbHN6gYiPlp2kq7K5wMfO1dzj6vH4/wYNFBsiKTA3PkVMU1phaG92fYSLkpmgp661vA=A",
+    ),
+    (
+        "padding for a letter",
+        "AwoRGB8mLTQ7QklQV15lbHN6gYiPlp2kq7K5wMfO1dzj6vH4/wYNFBsiKTA3PkVMU1phaG92fYSLkpmgp661v===",
+    ),
+    (
+        "spare bits set",
+        "AwoRGB8mLTQ7QklQV15lbHN6gYiPlp2kq7K5wMfO1dzj6vH4/wYNFBsiKTA3PkVMU1phaG92fYSLkpmgp661vB==",
+    ),
+];
 
 pub fn signatures(rt: &impl Print) -> io::Result<()> {
-    say(rt, b"\nBase64 of a signature, 64 bytes\n")?;
-    signature(
-        rt,
-        b"good",
-        b"AwoRGB8mLTQ7QklQV15lbHN6gYiPlp2kq7K5wMfO1dzj6vH4/wYNFBsiKTA3PkVMU1phaG92fYSLkpmgp661vA==",
-        &mut [MARK; 64],
-    )?;
-    signature(
-        rt,
-        b"a byte that is no letter",
-        b"AwoRGB8mLTQ7QklQV15lbHN6gYiPlp2kq7K5wMfO1dzj6vH4_wYNFBsiKTA3PkVMU1phaG92fYSLkpmgp661vA==",
-        &mut [MARK; 64],
-    )?;
-    signature(
-        rt,
-        b"a letter for the padding",
-        b"AwoRGB8mLTQ7QklQV15lbHN6gYiPlp2kq7K5wMfO1dzj6vH4/wYNFBsiKTA3PkVMU1phaG92fYSLkpmgp661vA=A",
-        &mut [MARK; 64],
-    )?;
-    signature(
-        rt,
-        b"padding for a letter",
-        b"AwoRGB8mLTQ7QklQV15lbHN6gYiPlp2kq7K5wMfO1dzj6vH4/wYNFBsiKTA3PkVMU1phaG92fYSLkpmgp661v===",
-        &mut [MARK; 64],
-    )?;
-    signature(
-        rt,
-        b"spare bits set",
-        b"AwoRGB8mLTQ7QklQV15lbHN6gYiPlp2kq7K5wMfO1dzj6vH4/wYNFBsiKTA3PkVMU1phaG92fYSLkpmgp661vB==",
-        &mut [MARK; 64],
-    )?;
+    println!(rt; "\nBase64 of a signature, 64 bytes")?;
+    for (what, text) in SIGNATURES {
+        let mut buffer = [MARK; 64];
+        let ok = base64_text::signature(text.as_bytes(), &mut buffer);
+        let buffer = &buffer;
+        println!(rt; "{what}: {}", Answer { ok, buffer })?;
+    }
     beginnings(
         rt,
         b"AwoRGB8mLTQ7QklQV15lbHN6gYiPlp2kq7K5wMfO1dzj6vH4/wYNFBsiKTA3PkVMU1phaG92fYSLkpmgp661vA==AA",
@@ -178,71 +145,55 @@ pub fn signatures(rt: &impl Print) -> io::Result<()> {
 }
 
 // How far a text goes well as the base64 of n bytes.
-fn stop(rt: &impl Print, name: &[u8], text: &[u8], n: usize) -> io::Result<()> {
+fn stop(rt: &impl Print, name: &str, text: &[u8], n: usize) -> io::Result<()> {
     let checked = base64_text::check(text, n);
-    say(rt, name)?;
-    say(rt, b": ")?;
-    say_number(rt, checked.at)?;
-    if checked.good {
-        say(rt, b", good")?;
-    }
-    say(rt, b"\n")
+    let good = if checked.good { ", good" } else { "" };
+    println!(rt; "{name}: {}{good}", checked.at)
 }
 
-// How far a text goes well with byte b at a place.
-fn stop_with(rt: &impl Print, text: &mut [u8], n: usize, at: usize, b: u8) -> io::Result<()> {
-    if text.len() <= at {
-        return Ok(());
+// The same with byte b at each place in turn.
+fn stops_with<const N: usize>(rt: &impl Print, text: &[u8; N], n: usize, b: u8) -> io::Result<()> {
+    print!(rt; "with {} at each place:", char::from(b))?;
+    for at in 0..N {
+        let mut changed = *text;
+        changed[at] = b;
+        print!(rt; " {}", base64_text::check(&changed, n).at)?;
     }
-    let before = text[at];
-    text[at] = b;
-    let how_far = base64_text::check(text, n).at;
-    text[at] = before;
-    say(rt, b" ")?;
-    say_number(rt, how_far)
+    println!(rt)
 }
 
-// The same with b at each place in turn.
-fn stops_with(rt: &impl Print, text: &mut [u8], n: usize, b: u8) -> io::Result<()> {
-    say(rt, b"with ")?;
-    say(rt, &[b])?;
-    say(rt, b" at each place:")?;
-    for at in 0..text.len() {
-        stop_with(rt, text, n, at, b)?;
+// The same with each of some bytes.
+fn all_stops<const N: usize>(rt: &impl Print, text: &[u8; N], n: usize) -> io::Result<()> {
+    for b in [b'=', b'A', b'B', b'-'] {
+        stops_with(rt, text, n, b)?;
     }
-    say(rt, b"\n")
+    Ok(())
 }
 
 pub fn stops(rt: &impl Print) -> io::Result<()> {
-    say(rt, b"\nBase64 of a key, how far it goes well\n")?;
-    let mut key = *b"yMnKy8zNzs/Q0dLT1NXW19jZ2tvc3d7f4OHi4+Tl5uc=";
-    stop(rt, b"good", &key, 32)?;
+    println!(rt; "\nBase64 of a key, how far it goes well")?;
+    let key = b"yMnKy8zNzs/Q0dLT1NXW19jZ2tvc3d7f4OHi4+Tl5uc=";
+    stop(rt, "good", key, 32)?;
     stop(
         rt,
-        b"one character more",
+        "one character more",
         b"yMnKy8zNzs/Q0dLT1NXW19jZ2tvc3d7f4OHi4+Tl5uc==",
         32,
     )?;
-    stop(rt, b"no character", b"", 32)?;
+    stop(rt, "no character", b"", 32)?;
     stop(
         rt,
-        b"a padded group before it",
+        "a padded group before it",
         b"Zm8=yMnKy8zNzs/Q0dLT1NXW19jZ2tvc3d7f4OHi4+Tl5uc=",
         32,
     )?;
-    stops_with(rt, &mut key, 32, b'=')?;
-    stops_with(rt, &mut key, 32, b'A')?;
-    stops_with(rt, &mut key, 32, b'B')?;
-    stops_with(rt, &mut key, 32, b'-')?;
-    say(rt, b"\nBase64 of a signature, how far it goes well\n")?;
-    let mut signature =
-        *b"AwoRGB8mLTQ7QklQV15lbHN6gYiPlp2kq7K5wMfO1dzj6vH4/wYNFBsiKTA3PkVMU1phaG92fYSLkpmgp661vA==";
-    stop(rt, b"good", &signature, 64)?;
-    stop(rt, b"one character less", &signature[..87], 64)?;
-    stop(rt, b"two characters less", &signature[..86], 64)?;
-    stop(rt, b"a key in its place", &key, 64)?;
-    stops_with(rt, &mut signature, 64, b'=')?;
-    stops_with(rt, &mut signature, 64, b'A')?;
-    stops_with(rt, &mut signature, 64, b'B')?;
-    stops_with(rt, &mut signature, 64, b'-')
+    all_stops(rt, key, 32)?;
+    println!(rt; "\nBase64 of a signature, how far it goes well")?;
+    let signature =
+        b"AwoRGB8mLTQ7QklQV15lbHN6gYiPlp2kq7K5wMfO1dzj6vH4/wYNFBsiKTA3PkVMU1phaG92fYSLkpmgp661vA==";
+    stop(rt, "good", signature, 64)?;
+    stop(rt, "one character less", &signature[..87], 64)?;
+    stop(rt, "two characters less", &signature[..86], 64)?;
+    stop(rt, "a key in its place", key, 64)?;
+    all_stops(rt, signature, 64)
 }
