@@ -1,21 +1,29 @@
 // The program's arguments, as bytes.
+use std::alloc::AllocError;
 use std::env::{Env, FillError};
 
 // So many bytes of an argument are held; the name of a file that can be opened has fewer.
-pub const WORD_ROOM: usize = 4096;
+const WORD_ROOM: usize = 4096;
 
-// How many there are, the program's name among them.
-pub fn count(rt: &HostRuntime) -> usize {
-    for i in 0..usize::MAX {
-        if let Err(FillError::NotPresent) = rt.arg(i, &mut [0; 0]) {
-            return i;
-        }
-    }
-    usize::MAX
+// Argument i, where it is there. There is nothing of it where it has more bytes than the room.
+fn word(rt: &HostRuntime, i: usize) -> Result<Option<Vec<u8>>, AllocError> {
+    let mut room = [0; WORD_ROOM];
+    let length = match rt.arg(i, &mut room) {
+        Ok(n) => n,
+        Err(FillError::TooLong) => 0,
+        Err(FillError::NotPresent) => return Ok(None),
+    };
+    Ok(Some(room[..length].to_vec(rt.alloc())?))
 }
 
-// Argument i, at the front of the room. There is none of it where the argument is missing, or has more bytes than the room.
-pub fn word<'a>(rt: &HostRuntime, i: usize, room: &'a mut [u8; WORD_ROOM]) -> &'a [u8] {
-    let n = rt.arg(i, room).unwrap_or(0);
-    places::part(room, 0, n)
+// All behind the program's name.
+pub fn words(rt: &HostRuntime) -> Result<Vec<Vec<u8>>, AllocError> {
+    let mut all = Vec::new(rt.alloc());
+    for i in 1..usize::MAX {
+        let Some(word) = word(rt, i)? else {
+            break;
+        };
+        all.push(word)?;
+    }
+    Ok(all)
 }

@@ -1,78 +1,39 @@
 // The lengths of the pieces, one a line, used in turn and again from the first.
-use crate::lines::{cut_off, following};
+use crate::faults::Fault;
+use crate::files;
 
-const PIECE_LIMIT: u64 = 65536;
+// A piece has at most so many bytes, and so has the text of the lengths.
+pub const PIECE_LIMIT: usize = 65536;
 
-const LINE_LIMIT: u64 = 4096;
+const LINE_LIMIT: usize = 4096;
 
-// A piece's length, and the place of the next line.
-#[derive(Clone, Copy)]
-pub struct Cut {
-    pub size: usize,
-    pub next: usize,
+const FORM: &str = "a piece length is a number from 0 to 65536; at most 4096, and not all 0";
+
+fn length_of(line: &[u8]) -> Option<usize> {
+    let length = usize::try_from(number::decimal(line, 5).ok()?).ok()?;
+    (length <= PIECE_LIMIT).then_some(length)
 }
 
-fn is_length(line: &[u8]) -> bool {
-    let Ok(n) = number::decimal(line, 5) else {
-        return false;
+// The lengths. A line that is none is told by its number, as is the first of too many, and the last where all are 0.
+pub fn load<'a>(rt: &HostRuntime, name: &'a [u8]) -> Result<Vec<usize>, Fault<'a>> {
+    let malformed = |line| Fault::Malformed {
+        name,
+        line,
+        form: FORM,
     };
-    n <= PIECE_LIMIT
-}
-
-fn is_zero(line: &[u8]) -> bool {
-    text::same(line, b"0")
-}
-
-// The number of the first line that is no piece length, or one too many, or the last line where all are 0; and 0 where all is good.
-pub fn fault(text: &[u8]) -> u64 {
-    let mut line = 0;
-    let mut at = 0;
-    let mut zeros = true;
-    while at < text.len() {
-        line = following(line);
-        let cut = cut_off(text, at, b'\n');
-        let word = places::part(text, at, cut.end);
-        if (LINE_LIMIT < line) | !is_length(word) {
-            return line;
+    let text = files::load(rt, name, PIECE_LIMIT as u64)?;
+    let mut lengths = Vec::new(rt.alloc());
+    let mut last = 1;
+    for (number, line) in (1..).zip(text.split_inclusive(|b| *b == b'\n')) {
+        let length = length_of(line.strip_suffix(b"\n").unwrap_or(line));
+        match length {
+            Some(n) if lengths.len() < LINE_LIMIT => lengths.push(n)?,
+            _ => return Err(malformed(number)),
         }
-        zeros = zeros & is_zero(word);
-        at = cut.next;
+        last = number;
     }
-    faulty(zeros, line)
-}
-
-fn faulty(zeros: bool, line: u64) -> u64 {
-    if !zeros {
-        return 0;
+    if lengths.iter().all(|n| *n == 0) {
+        return Err(malformed(last));
     }
-    if line == 0 {
-        return 1;
-    }
-    line
-}
-
-fn length_of(line: &[u8]) -> usize {
-    let Ok(n) = number::decimal(line, 5) else {
-        return 0;
-    };
-    n as usize
-}
-
-// The cut at a place, or the first one from the end of the text.
-pub fn cut_at(text: &[u8], place: usize) -> Cut {
-    if place < text.len() {
-        let cut = cut_off(text, place, b'\n');
-        return Cut {
-            size: length_of(places::part(text, place, cut.end)),
-            next: cut.next,
-        };
-    }
-    if text.len() == 0 {
-        return Cut { size: 0, next: 0 };
-    }
-    let cut = cut_off(text, 0, b'\n');
-    Cut {
-        size: length_of(places::part(text, 0, cut.end)),
-        next: cut.next,
-    }
+    Ok(lengths)
 }

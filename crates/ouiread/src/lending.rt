@@ -10,17 +10,7 @@ use reader::Outcome;
 use ring::KeyRecord;
 use state::Reader;
 
-// How many of the records are lent: a count is never over the room.
-fn within(count: usize) -> usize
-    ensures { result ≡ min count ring_limit }
-{
-    if RING_LIMIT < count {
-        return RING_LIMIT;
-    }
-    count
-}
-
-// A feed with the first `count` of the records as a lent table. It is lent here alone: all above has the ring by value.
+// A feed with the first `count` of the records as a lent table: a count is never over the room. It is lent here alone: all above has the ring by value.
 pub fn feed(
     r: Reader,
     head: &mut [u8],
@@ -33,6 +23,6 @@ pub fn feed(
 ) -> Outcome
     ensures { made result head.new block.new question.new ≡ lent_feed_of (take (min count ring_limit) records) uri.now (configuration r head.old block.old question.old) piece.now }
 {
-    let n = within(count);
-    lent::feed(r, head, block, question, &records[..n], uri, piece)
+    let lent = &records[..count.min(RING_LIMIT)];
+    lent::feed(r, head, block, question, lent, uri, piece)
 }

@@ -1,153 +1,160 @@
 // One reading of one stream: its events are written, and its questions answered.
-use crate::answers::{Answers, Letter};
-use crate::files::BODY;
+use crate::answers::Answers;
+use crate::faults::Fault;
 use crate::tallying::counted;
-use crate::{answers, messages};
+use crate::{events, lending};
 use limits::{BLOCK_LIMIT, HEAD_LIMIT};
-use state::{Reader, Word};
+use reader::Outcome;
+use ring::KeyRing;
+use state::{Reader, Word, goes_on};
 use std::fs::File;
-use std::io;
 use std::io::Write;
 use tally::Tally;
 
-// The reader, the answers that are left, the file for the body where one is asked for, whether the program goes no further, whether an
-// event's line was lost, and what was counted.
+// Why no more of the stream is read.
 #[derive(Drop)]
-pub struct Sitting {
+pub enum Stop<'a> {
+    // The last event is told, or no answer is left.
+    Over,
+    Fault(Fault<'a>),
+}
+
+impl<'a> From<Fault<'a>> for Stop<'a> {
+    fn from(fault: Fault<'a>) -> Self {
+        Stop::Fault(fault)
+    }
+}
+
+// A file to be written, and its name.
+#[derive(Drop)]
+pub struct Body<'a> {
+    pub name: &'a [u8],
+    pub file: File,
+}
+
+// What is asked of the stream: whose keys are trusted, which URI is wanted, and whether places are told.
+#[derive(Clone, Copy)]
+pub struct Terms<'a> {
+    pub ring: KeyRing,
+    pub uri: &'a [u8],
+    pub places: bool,
+}
+
+// The reader and its buffers, the answers that are left, the file for the body where one is asked for, and what was counted.
+#[derive(Drop)]
+pub struct Sitting<'a> {
     pub reader: Reader,
-    pub answers: Answers,
-    pub body: Option<File>,
-    pub stopped: bool,
-    pub lost: bool,
+    pub head: [u8; HEAD_LIMIT],
+    block: [u8; BLOCK_LIMIT],
+    question: [u8; HEAD_LIMIT],
+    pub terms: Terms<'a>,
+    answers: Answers<'a>,
+    body: Option<Body<'a>>,
     pub tally: Tally,
 }
 
-// The sitting after a call that leaves the reader so.
-pub fn with_reader(s: Sitting, r: Reader) -> Sitting {
-    let mut t = s;
-    t.reader = r;
-    t
-}
-
-fn stopped(s: Sitting) -> Sitting {
-    let mut t = s;
-    t.stopped = true;
-    t
-}
-
-// The sitting with a call's word counted.
-fn tallied(s: Sitting, word: Word) -> Sitting {
-    let mut t = s;
-    t.tally = counted(t.tally, word);
-    t
-}
-
-// Where an event's line could not be written the program goes no further.
-fn written(rt: &HostRuntime, s: Sitting, line: io::Result<()>) -> Sitting {
-    if line.is_ok() {
-        return s;
-    }
-    messages::lost(rt);
-    let mut t = stopped(s);
-    t.lost = true;
-    t
-}
-
-// A released block goes to the body's file, where one is asked for, and then its line is written.
-fn tell_block(rt: &HostRuntime, s: Sitting, block: &[u8], offset: u64, length: usize) -> Sitting {
-    let mut t = s;
-    let released = t.reader.released;
-    if let Some(body) = &mut t.body {
-        if body.write_all(reader::block_part(block, released)).is_err() {
-            messages::unwritten(rt, BODY);
-            return stopped(t);
+impl<'a> Sitting<'a> {
+    // Before the first byte.
+    pub fn new(terms: Terms<'a>, answers: Answers<'a>, body: Option<Body<'a>>) -> Sitting<'a> {
+        Sitting {
+            reader: reader::fresh(),
+            head: [0; HEAD_LIMIT],
+            block: [0; BLOCK_LIMIT],
+            question: [0; HEAD_LIMIT],
+            terms,
+            answers,
+            body,
+            tally: tally::zero(),
         }
     }
-    written(rt, t, messages::block(rt, offset, length))
-}
 
-// Every event but a question.
-fn tell_plain(rt: &HostRuntime, s: Sitting, block: &[u8], word: Word) -> Sitting {
-    match word {
-        Word::More => s,
-        Word::Question { length, key: _ } => written(rt, s, messages::question(rt, length)),
-        Word::Head(status) => written(rt, s, messages::event(rt, b"head ", status)),
-        Word::Block { offset, length } => tell_block(rt, s, block, offset.0, length),
-        Word::Closed(total) => stopped(written(rt, s, messages::event(rt, b"closed ", total))),
-        Word::Complete(total) => stopped(written(rt, s, messages::event(rt, b"complete ", total))),
-        Word::Refused(why) => stopped(written(rt, s, messages::refused(rt, why))),
+    // Feeds a piece, and what is left of it after each event.
+    pub fn feed(&mut self, rt: &HostRuntime, piece: &[u8]) -> Result<(), Stop<'a>> {
+        let mut rest = piece;
+        for _ in 0..u64::MAX {
+            let o = self.feed_rest(rest);
+            self.tell(rt, o)?;
+            if goes_on(o.word) {
+                break;
+            }
+            rest = &rest[o.taken.min(rest.len())..];
+        }
+        Ok(())
     }
-}
 
-fn answer(
-    rt: &HostRuntime,
-    s: Sitting,
-    head: &mut [u8; HEAD_LIMIT],
-    block: &mut [u8; BLOCK_LIMIT],
-    question: &mut [u8; HEAD_LIMIT],
-    good: bool,
-) -> Sitting {
-    let r = s.reader;
-    let o = reader::answer(r, head, block, question, good);
-    let word = o.word;
-    let after = o.reader;
-    tell_plain(rt, tallied(with_reader(s, after), word), block, word)
-}
-
-// Answers the open question. Without an answer the program goes no further.
-fn ask(
-    rt: &HostRuntime,
-    s: Sitting,
-    head: &mut [u8; HEAD_LIMIT],
-    block: &mut [u8; BLOCK_LIMIT],
-    question: &mut [u8; HEAD_LIMIT],
-) -> Sitting {
-    let mut t = s;
-    let letter = answers::next_letter(&mut t.answers);
-    match letter {
-        Letter::Yes => answer(rt, t, head, block, question, true),
-        Letter::No => answer(rt, t, head, block, question, false),
-        Letter::LineFeed => stopped(t),
-        Letter::Space => stopped(t),
-        Letter::Other => without(rt, t, letter),
-        Letter::End => stopped(t),
-        Letter::Failed => without(rt, t, letter),
+    // Tells the reader that no bytes will follow.
+    pub fn end(&mut self, rt: &HostRuntime) -> Result<(), Stop<'a>> {
+        let o = reader::end(
+            self.reader,
+            &mut self.head,
+            &mut self.block,
+            &mut self.question,
+        );
+        self.tell(rt, o)
     }
-}
 
-// No answer is to be had, and why.
-fn without(rt: &HostRuntime, s: Sitting, letter: Letter) -> Sitting {
-    answers::tell(rt, letter, s.answers.line);
-    stopped(s)
-}
-
-fn is_question(w: Word) -> bool {
-    match w {
-        Word::More => false,
-        Word::Question { length: _, key: _ } => true,
-        Word::Head(_) => false,
-        Word::Block {
-            offset: _,
-            length: _,
-        } => false,
-        Word::Closed(_) => false,
-        Word::Complete(_) => false,
-        Word::Refused(_) => false,
+    // Feeds the rest of a piece up to the first event.
+    fn feed_rest(&mut self, rest: &[u8]) -> Outcome {
+        lending::feed(
+            self.reader,
+            &mut self.head,
+            &mut self.block,
+            &mut self.question,
+            self.terms.ring.records,
+            self.terms.ring.count,
+            self.terms.uri,
+            rest,
+        )
     }
-}
 
-// Writes an event and, where it is a question, answers it and writes what the answer gives.
-pub fn tell(
-    rt: &HostRuntime,
-    s: Sitting,
-    head: &mut [u8; HEAD_LIMIT],
-    block: &mut [u8; BLOCK_LIMIT],
-    question: &mut [u8; HEAD_LIMIT],
-    word: Word,
-) -> Sitting {
-    let t = tell_plain(rt, tallied(s, word), block, word);
-    if is_question(word) & !t.stopped {
-        return ask(rt, t, head, block, question);
+    // Writes a call's event and, where it is a question, answers it and writes what the answer gives.
+    fn tell(&mut self, rt: &HostRuntime, o: Outcome) -> Result<(), Stop<'a>> {
+        self.take(rt, o)?;
+        if let Word::Question { .. } = o.word {
+            let after = self.answer()?;
+            self.take(rt, after)?;
+        }
+        Ok(())
     }
-    t
+
+    // Answers the open question.
+    fn answer(&mut self) -> Result<Outcome, Stop<'a>> {
+        let Some(good) = self.answers.next_answer()? else {
+            return Err(Stop::Over);
+        };
+        Ok(reader::answer(
+            self.reader,
+            &mut self.head,
+            &mut self.block,
+            &mut self.question,
+            good,
+        ))
+    }
+
+    // Keeps what a call leaves, and counts and writes its event.
+    fn take(&mut self, rt: &HostRuntime, o: Outcome) -> Result<(), Stop<'a>> {
+        self.reader = o.reader;
+        self.tally = counted(self.tally, o.word);
+        if let Word::Block { .. } = o.word {
+            self.write_block()?;
+        }
+        if events::tell(rt, o.word, self.terms.places).is_err() {
+            return Err(Stop::Fault(Fault::Lost));
+        }
+        match o.word {
+            Word::Closed(_) | Word::Complete(_) | Word::Refused(_) => Err(Stop::Over),
+            _ => Ok(()),
+        }
+    }
+
+    // A released block goes to the body's file, where one is asked for, before its line is written.
+    fn write_block(&mut self) -> Result<(), Fault<'a>> {
+        let Some(body) = &mut self.body else {
+            return Ok(());
+        };
+        let block = reader::block_part(&self.block, self.reader.released);
+        body.file
+            .write_all(block)
+            .map_err(|_| Fault::Unwritten(body.name))
+    }
 }
