@@ -10,7 +10,10 @@ fn trusted(text: &[u8], first: u64, last: u64) -> KeyRecord {
 pub fn three() -> KeyRing {
     let first = b"yMnKy8zNzs/Q0dLT1NXW19jZ2tvc3d7f4OHi4+Tl5uc=";
     let other = b"AwoRGB8mLTQ7QklQV15lbHN6gYiPlp2kq7K5wMfO1dw=";
-    let one = ring::added(ring::empty(), trusted(first, 1000000000, 1500000000));
-    let two = ring::added(one, trusted(first, 1584748000, 1584748999));
-    ring::added(two, trusted(other, 0, 999999999999))
+    let records = [
+        trusted(first, 1000000000, 1500000000),
+        trusted(first, 1584748000, 1584748999),
+        trusted(other, 0, 999999999999),
+    ];
+    records.into_iter().fold(ring::empty(), ring::added)
 }

@@ -5,20 +5,20 @@
 
 mod cases;
 mod keys;
-mod lines;
 
+use cases::Cases;
 use std::io;
 use std::io::Read;
 
 // So many bytes of input are read at most.
 const ROOM: u64 = 600000;
 
-fn read(rt: &HostRuntime) -> io::Result<()> {
+fn main(rt: HostRuntime) -> io::Result<()> {
     let mut input = Vec::new(rt.alloc());
     rt.stdin().take(ROOM).read_to_end(&mut input)?;
-    cases::judge_all(rt, &input)
-}
-
-fn main(rt: HostRuntime) -> io::Result<()> {
-    read(&rt)
+    let ring = keys::three();
+    for case in Cases(&input) {
+        case.judge(&rt, ring)?;
+    }
+    Ok(())
 }
