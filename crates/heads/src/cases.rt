@@ -2,7 +2,7 @@
 ghost use Rattle.std.specs.Prelude.{length};
 ghost use Rattle.std.specs.Iterator.{at_most};
 
-use judging::HeadAnswer;
+use judging::Asked;
 use limits::HEAD_LIMIT;
 use ranges::Extent;
 use refusals::Refusal;
@@ -72,30 +72,29 @@ impl Case<'_> {
         rt.write_all(string)
     }
 
+    // What an accepted head asks.
+    fn tell_asked(&self, rt: &impl Print, asked: &Asked, question: &[u8]) -> io::Result<()> {
+        print!(rt;
+            " asks {} status {} size {}",
+            asked.length, asked.status, asked.size
+        )?;
+        tell_extent(rt, asked.extent)?;
+        print!(rt; " key {} id ", asked.key)?;
+        rt.write_all(places::part(&asked.id, 0, asked.id_length))?;
+        let string = places::part(question, 0, asked.length);
+        self.tell_string(rt, &asked.signature, string)?;
+        println!(rt)
+    }
+
     // Judges the head and tells what comes of it. Whatever the head is, the same URI is asked for.
     pub fn judge(&self, rt: &impl Print, ring: KeyRing) -> io::Result<()> {
         let mut question = [0; HEAD_LIMIT];
         let uri = b"https://example.com/hello";
         let judged = judging::judge(self.head, ring, uri, &mut question);
         rt.write_all(self.label)?;
-        match judged.answer {
-            HeadAnswer::Refused(why) => tell_refused(rt, why),
-            HeadAnswer::Asks {
-                status,
-                size,
-                extent,
-                key,
-                id_length,
-                length,
-            } => {
-                print!(rt; " asks {length} status {status} size {size}")?;
-                tell_extent(rt, extent)?;
-                print!(rt; " key {key} id ")?;
-                rt.write_all(places::part(&judged.id, 0, id_length))?;
-                let string = places::part(&question, 0, length);
-                self.tell_string(rt, &judged.signature, string)?;
-                println!(rt)
-            }
+        match judged {
+            Ok(asked) => self.tell_asked(rt, &asked, &question),
+            Err(why) => tell_refused(rt, why),
         }
     }
 }
