@@ -44,15 +44,13 @@ pub trait Words {
     fn small1(x: Self::Word) -> Self::Word
         ensures { value result ≡ σ variant variant.small1 (value x) };
 
-    // The word that its bytes write, the highest first.
+    // The word that its bytes write, the highest first. Of another number of bytes nothing is said.
     fn read(bytes: &[u8]) -> Self::Word
-        requires { length bytes.now ≡ variant.bytes }
-        ensures { value result ≡ number 0 bytes.now };
+        ensures { length bytes.now ≡ variant.bytes → value result ≡ number 0 bytes.now };
 
-    // Writes a word's bytes, the highest first.
+    // Writes a word's bytes, the highest first, over as many. Of another number of bytes nothing is said.
     fn write(x: Self::Word, out: &mut [u8])
-        requires { length out.old ≡ variant.bytes }
-        ensures { out.new ≡ big_endian variant.bytes (value x) };
+        ensures { length out.old ≡ variant.bytes → out.new ≡ big_endian variant.bytes (value x) };
 
     ghost bytes_are: { variant.bytes ≡ BYTES };
 

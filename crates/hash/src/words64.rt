@@ -53,13 +53,18 @@ impl Words for Sha512Words {
     }
 
     fn read(bytes: &[u8]) -> u64 {
+        if bytes.len() != 8 {
+            return 0;
+        }
         let mut own = [0u8; 8];
         own.copy_from_slice(bytes);
         u64::from_be_bytes(own)
     }
 
     fn write(x: u64, out: &mut [u8]) {
-        out.copy_from_slice(&x.to_be_bytes());
+        if out.len() == 8 {
+            out.copy_from_slice(&x.to_be_bytes());
+        }
     }
 
     ghost bytes_are = { refl };

@@ -53,13 +53,18 @@ impl Words for Sha256Words {
     }
 
     fn read(bytes: &[u8]) -> u32 {
+        if bytes.len() != 4 {
+            return 0;
+        }
         let mut own = [0u8; 4];
         own.copy_from_slice(bytes);
         u32::from_be_bytes(own)
     }
 
     fn write(x: u32, out: &mut [u8]) {
-        out.copy_from_slice(&x.to_be_bytes());
+        if out.len() == 4 {
+            out.copy_from_slice(&x.to_be_bytes());
+        }
     }
 
     ghost bytes_are = { refl };

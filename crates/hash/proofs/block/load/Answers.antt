@@ -17,7 +17,7 @@ loop-i-preserved g c =
     let size = sym g.met.S.Words.bytes_are in (
       map-set f c.loop-i.w c.loop-i.i c.read.result
           ∙ parse_turn v p (map f c.args.w.now) (map f c.loop-i.w) c.loop-i.i (f c.read.result) c.loop-i.invariant.0 (simp length-map (search rules))
-          (parse_place v p _ _ c.loop-i.i (f c.read.result) (c.BYTES.ensures ∙ size) (c.BYTES-in-loop-i.ensures ∙ size) c.read.ensures),
+          (parse_place v p _ _ c.loop-i.i (f c.read.result) (c.BYTES.ensures ∙ size) (c.BYTES-in-loop-i.ensures ∙ size) (c.read.ensures (search rules))),
       search rules,
       c.loop-i.invariant.2,
       c.loop-i.invariant.3,
