@@ -1,7 +1,7 @@
 -- The table of digits agrees with the two classes of digits and their values. Assumes nothing.
 use mathlib.Core.Path.{◌≡◌, refl, sym}
 use mathlib.Core.Bool.{Bool, true, false, ◌&&◌, ◌||◌, false≢true}
-use Prim.Native.Nat.{ℕ, ◌-◌, ◌≤◌, ◌<◌}
+use Prim.Native.Nat.{ℕ, ◌-◌, ◌≤◌}
 use native.Mathlib.Omega.{arith}
 use borrow.Author.Tests.{leb-true, lt-ltb, le-ltb, le-leb, lt-leb}
 use lib.Dec.{leb, ltb}
@@ -27,16 +27,6 @@ inside low high b e =
 
 pub within : (low high b : ℕ) → low ≤ b → b ≤ high → between low high b ≡ true
 within low high b h k = simp (le-leb low b h, le-leb b high k)
-
-pub below : (low high b : ℕ) → b < low → between low high b ≡ false
-below low high b h = simp (lt-leb low b h)
-
-pub above : (low high b : ℕ) → high < b → between low high b ≡ false
-above low high b h = rest (leb low b)
-  where
-    rest : (t : Bool) → t && leb b high ≡ false
-    rest true = lt-leb b high h
-    rest false = refl
 
 -- ---- the three rows of the table, each with what its byte is between
 

@@ -45,6 +45,7 @@ pub fn hex(s: &[u8], most: usize) -> Result<u64, usize>
 }
 
 // The number of a text of so many bytes: it is digits to its end, and has one.
+#[tactic(auto, unfolding(crate::specs::Digits::whole_read))]
 fn whole(length: usize, d: Digits) -> Result<u64, usize>
     ensures { result ≡ whole_read length d }
 {
@@ -55,6 +56,7 @@ fn whole(length: usize, d: Digits) -> Result<u64, usize>
 }
 
 // How many digits of a decimal may be taken: at most 19, and where the first is 0, no more than `zeros`.
+#[tactic(auto, unfolding(crate::specs::Digits::most_digits))]
 fn most_digits(s: &[u8], most: usize, zeros: usize) -> usize
     ensures { result ≡ most_digits (min most 19) zeros s.now }
 {
@@ -98,6 +100,7 @@ fn fit(count: usize, value: u64, limit: u64) -> usize
 }
 
 // A digit's value in any base that has it, and 16 for a byte that is no hex digit.
+#[tactic(auto, unfolding(crate::specs::Digits::digit_of))]
 fn digit(b: u8) -> u64
     ensures { result ≡ digit_of b }
 {
@@ -129,6 +132,7 @@ pub fn write_decimal(out: &mut [u8], at: usize, n: u64) -> usize
 }
 
 // How many digits n has in decimal.
+#[tactic(auto, using(crate::proofs::Numerals::digits_are))]
 fn width(n: u64) -> usize
     ensures { result ≡ length (decimalText n) }
 {
