@@ -23,6 +23,7 @@ pub struct KeyRing {
 }
 
 // No record. In this contract and the next, `whole` says every byte of the result and `ring` what it stands for.
+#[tactic(auto, unfolding(crate::specs::Keys::no_keys, crate::specs::Keys::ring_of))]
 pub fn empty() -> KeyRing
     ensures whole { result ≡ no_keys }
     ensures ring { ring_of result ≡ [] }
@@ -69,6 +70,7 @@ fn first_fit(records: &[KeyRecord], key: [u8; 32], time: u64) -> Option<usize>
 }
 
 // The record has the key, and the time is within its span: the first and the last second are.
+#[tactic(auto, using(crate::proofs::SearchLaws::same_is), unfolding(stream::specs::Ring::fits))]
 fn fits(entry: KeyRecord, key: [u8; 32], time: u64) -> bool
     ensures { result ≡ fits_of key time (trusted_of entry) }
 {
