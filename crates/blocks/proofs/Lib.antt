@@ -1,2 +1,1 @@
-pub mod ChainLaws
 pub mod MessageLaws

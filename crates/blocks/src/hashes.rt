@@ -6,6 +6,7 @@ ghost use Rattle.stream.specs.Blocks.{chained};
 use crate::offsets::BlockNumber;
 
 // The hash of a block, by its number and the hash of the block before it. Nothing stands before block 0.
+#[tactic(auto, unfolding(stream::specs::Blocks::chained))]
 pub fn chain(number: BlockNumber, before: [u8; 64], block: &[u8]) -> [u8; 64]
     ensures { result ≡ chained (pick (eqb number.0 0) [] before) block.now }
 {

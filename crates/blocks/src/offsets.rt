@@ -11,6 +11,7 @@ pub struct ByteOffset(pub u64);
 pub struct BlockNumber(pub u64);
 
 // Where block i starts among blocks of `size` bytes; a place past the largest number is that number.
+#[tactic(auto, unfolding(crate::specs::Place::offset_at))]
 pub fn offset_of(i: BlockNumber, size: u64) -> ByteOffset
     ensures { result ≡ offset_at i size }
 {
