@@ -17,6 +17,7 @@ pub enum Extent {
 }
 
 // Where they begin.
+#[tactic(auto, unfolding(stream::specs::Range::first_byte))]
 pub fn first_byte(e: Extent) -> ByteOffset
     ensures { result.0 ≡ first_byte (range_in e) }
 {
@@ -28,6 +29,7 @@ pub fn first_byte(e: Extent) -> ByteOffset
 
 // Whether a chunk of n bytes after `so_far` bytes of the body is among them, and whether all of them have come where it has none. The sum is not
 // made, nor the number after the last byte's, so that neither can wrap.
+#[tactic(auto, unfolding(crate::specs::Extent::ends_within, stream::specs::Range::is_within))]
 pub fn is_within(e: Extent, so_far: u64, n: u64) -> bool
     ensures { result ≡ is_within (range_in e) so_far n }
 {
@@ -37,6 +39,7 @@ pub fn is_within(e: Extent, so_far: u64, n: u64) -> bool
     }
 }
 
+#[tactic(auto, unfolding(crate::specs::Extent::ends_within))]
 fn ends_within(last: ByteOffset, so_far: u64, n: u64) -> bool
     ensures { result ≡ ends_within last.0 so_far n }
 {

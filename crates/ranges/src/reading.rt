@@ -28,6 +28,7 @@ pub fn read(value: &[u8], size: usize) -> Option<Extent>
 }
 
 // Whether a part from byte `first` to byte `last` of so many is made of whole blocks, but for the body's last one.
+#[tactic(auto, unfolding(stream::specs::Range::is_aligned))]
 fn is_aligned(size: u64, first: u64, last: u64, total: u64) -> bool
     ensures { result ≡ is_aligned size (part first last total) }
 {
