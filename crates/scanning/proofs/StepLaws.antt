@@ -10,6 +10,7 @@ use borrow.Author.Tests.{eq-eqb, ne_eqb}
 use lib.Dec.{eqb}
 use lib.ListN.{length, drop, get_or, drop_of_length-le}
 use lib.Seq.{drop-cons}
+use Rattle.std.specs.Bool.{then_some}
 use Rattle.octets.specs.Octets.{octets}
 use Rattle.base64_text.specs.Base64.{is_base64_letter}
 use Rattle.scanner.specs.Form.{Form, done, many, either, text, or_else, when, step_form, may_end_form}
@@ -18,7 +19,12 @@ use Rattle.stream.specs.Bytes.{is_hex, is_digit, is_tchar, is_text}
 use Rattle.stream.specs.Forms.{is_multiple, signature_form, extension_form, size_form, chunk_form, data_end_form, name_form, field_form, field_line_form, trailer_form}
 use Rattle.scanning.specs.declared.state.State.{State}
 use Rattle.scanning.specs.declared.state.State.TheVariants.{Line, Digits, Mark, Sig, Hash, Letters, Pads, Pad, Return, Version, Status, Lines, Field, FieldName, Value, LineFeed, Name, NameRest, End}
-use Rattle.scanning.specs.States.{letters_form, sig_form, hash_form, mark_form, digits_form, follow_form, feed_form, value_form, field_name_form, version, status_digits_form, version_form, form_at}
+use Rattle.scanning.specs.States.{letters_form, sig_form, hash_form, mark_form, digits_form, follow_form, feed_form, value_form, field_name_form, version, status_digits_form, version_form, form_at, meant}
+
+-- what `then_some` gives
+pub meant_if : (t : Bool) (s : State) → meant (then_some t s) ≡ when t (form_at s)
+meant_if true s = refl
+meant_if false s = refl
 
 -- ---- an arm of the match over the states: o is what the byte b leaves in the state s
 
@@ -182,46 +188,25 @@ unfolding may_end_form
 text_end [] f h = h
 text_end (b ∷ t) f h = refl
 
--- the states at which one may, and that there is no other
-abbrev ends_at : State → Bool
-ends_at Line = false
-ends_at (Digits n) = false
-ends_at (Mark k) = false
-ends_at (Sig k) = false
-ends_at (Hash k) = false
-ends_at (Letters n) = false
-ends_at Pads = false
-ends_at Pad = false
-ends_at Return = false
-ends_at (Version follows k) = false
-ends_at (Status follows n) = false
-ends_at Lines = false
-ends_at Field = false
-ends_at (FieldName follows) = false
-ends_at (Value follows) = false
-ends_at (LineFeed follows) = false
-ends_at Name = false
-ends_at NameRest = true
-ends_at End = true
-
-pub ends_is : (s : State) → ends_at s ≡ may_end_form (form_at s)
+-- only at two of the states
+pub no_end : (s : State) → (s ≡ NameRest → ⊥) → (s ≡ End → ⊥) → false ≡ may_end_form (form_at s)
 unfolding may_end_form chunk_form size_form digits_form mark_form sig_form hash_form data_end_form version_form trailer_form field_line_form field_form field_name_form value_form feed_form name_form
-ends_is Line = refl
-ends_is (Digits n) = refl
-ends_is (Mark k) = text_end (drop k (octets ";oui")) (either (sig_form 0) (hash_form 0)) refl
-ends_is (Sig k) = text_end (drop k (octets "sig=")) (letters_form 85) (letters_end 85)
-ends_is (Hash k) = text_end (drop k (octets "hash=")) (letters_form 85) (letters_end 85)
-ends_is (Letters n) = letters_end n
-ends_is Pads = refl
-ends_is Pad = refl
-ends_is Return = refl
-ends_is (Version follows k) = text_end (drop k version) (status_digits_form follows 3) (status_end follows 3)
-ends_is (Status follows n) = status_end follows n
-ends_is Lines = refl
-ends_is Field = refl
-ends_is (FieldName follows) = refl
-ends_is (Value follows) = refl
-ends_is (LineFeed follows) = refl
-ends_is Name = refl
-ends_is NameRest = refl
-ends_is End = refl
+no_end Line g h = refl
+no_end (Digits n) g h = refl
+no_end (Mark k) g h = text_end (drop k (octets ";oui")) (either (sig_form 0) (hash_form 0)) refl
+no_end (Sig k) g h = text_end (drop k (octets "sig=")) (letters_form 85) (letters_end 85)
+no_end (Hash k) g h = text_end (drop k (octets "hash=")) (letters_form 85) (letters_end 85)
+no_end (Letters n) g h = letters_end n
+no_end Pads g h = refl
+no_end Pad g h = refl
+no_end Return g h = refl
+no_end (Version follows k) g h = text_end (drop k version) (status_digits_form follows 3) (status_end follows 3)
+no_end (Status follows n) g h = status_end follows n
+no_end Lines g h = refl
+no_end Field g h = refl
+no_end (FieldName follows) g h = refl
+no_end (Value follows) g h = refl
+no_end (LineFeed follows) g h = refl
+no_end Name g h = refl
+no_end NameRest g h = absurd (g refl)
+no_end End g h = absurd (h refl)

@@ -1,6 +1,6 @@
 -- What the states of the loop stand for: the form of what is still to come. Every number in a state stands for something, forged ones too. No public
 -- contract names these. Assumes nothing.
-use Rattle.std.specs.Prelude.{Bool, true, false, List, ℕ, drop}
+use Rattle.std.specs.Prelude.{Bool, true, false, List, ℕ, drop, Option as Maybe, Some, None}
 use Rattle.std.proofs.Math.Option.{Option, none, some}
 use Rattle.octets.specs.Octets.{octets}
 use Rattle.places.specs.declared.Checked.{Checked}
@@ -10,8 +10,6 @@ use Rattle.stream.specs.Forms.{letter, last_letter, digit, chunk_form, data_end_
 use Rattle.stream.specs.Lines.{crlf}
 use Rattle.scanning.specs.declared.state.State.{State}
 use Rattle.scanning.specs.declared.state.State.TheVariants.{Line, Digits, Mark, Sig, Hash, Letters, Pads, Pad, Return, Version, Status, Lines, Field, FieldName, Value, LineFeed, Name, NameRest, End}
-use Rattle.scanning.specs.declared.state.Next.{Next}
-use Rattle.scanning.specs.declared.state.Next.TheVariants.{To, Nowhere}
 
 -- ---- the rest of a chunk line
 
@@ -78,9 +76,9 @@ form_at Name = name_form
 form_at NameRest = many is_tchar done
 form_at End = done
 
-abbrev pub meant : Next → Option Form
-meant (To s) = some (form_at s)
-meant Nowhere = none
+abbrev pub meant : Maybe State → Option Form
+meant (Some s) = some (form_at s)
+meant None = none
 
 -- what the loop answers
 unfoldable pub scanned : Form → List ℕ → Checked

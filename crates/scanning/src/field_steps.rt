@@ -3,38 +3,32 @@ ghost use Rattle.std.specs.Prelude.{◌≡◌};
 ghost use Rattle.scanner.specs.Form.{step_form};
 ghost use Rattle.scanning.specs.States.{feed_form, meant, status_digits_form, version_form};
 
-use crate::state::{Next, State, next_if};
+use crate::state::State;
 use classes::Class;
 
-pub(crate) fn status(follows: bool, n: u8, b: u8) -> Next
+#[tactic(auto, using(crate::proofs::StepLaws::status_last, crate::proofs::StepLaws::status_more, crate::proofs::StepLaws::meant_if), unfolding(classes::specs::Class::class_of))]
+pub(crate) fn status(follows: bool, n: u8, b: u8) -> Option<State>
     ensures { meant result ≡ step_form (status_digits_form follows n) b }
 {
     if n == 0 {
-        return next_if(b == b' ', State::Value(follows));
+        return (b == b' ').then_some(State::Value(follows));
     }
-    next_if(
-        classes::is_in(Class::Digit, b),
-        State::Status(follows, n - 1),
-    )
+    classes::is_in(Class::Digit, b).then_some(State::Status(follows, n - 1))
 }
 
-pub(crate) fn version(follows: bool, k: u8, b: u8) -> Next
+#[tactic(auto, using(crate::proofs::StepLaws::version_over, crate::proofs::StepLaws::version_more, crate::proofs::StepLaws::meant_if))]
+pub(crate) fn version(follows: bool, k: u8, b: u8) -> Option<State>
     ensures { meant result ≡ step_form (version_form follows k) b }
 {
-    if 9 <= k {
-        return status(follows, 3, b);
+    match b"HTTP/1.1 ".get(usize::from(k)) {
+        Some(next) => (b == *next).then_some(State::Version(follows, k + 1)),
+        None => status(follows, 3, b),
     }
-    next_if(
-        b == places::byte_at(b"HTTP/1.1 ", k as usize),
-        State::Version(follows, k + 1),
-    )
 }
 
-pub(crate) fn line_feed(follows: bool, b: u8) -> Next
+#[tactic(auto, using(crate::proofs::StepLaws::feed_step, crate::proofs::StepLaws::meant_if))]
+pub(crate) fn line_feed(follows: bool, b: u8) -> Option<State>
     ensures { meant result ≡ step_form (feed_form follows) b }
 {
-    if follows {
-        return next_if(b == b'\n', State::Lines);
-    }
-    next_if(b == b'\n', State::End)
+    (b == b'\n').then_some(if follows { State::Lines } else { State::End })
 }

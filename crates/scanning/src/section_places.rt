@@ -4,6 +4,7 @@ ghost use Rattle.stream.specs.Places.{head_place, line_place, trailer_place};
 
 use crate::texts;
 
+#[tactic(auto, using(crate::proofs::AnswerLaws::place_ended, crate::proofs::AnswerLaws::place_open), unfolding(stream::specs::Places::head_place, stream::specs::Head::ends_head))]
 pub fn head_place(text: &[u8]) -> usize
     ensures { result ≡ head_place text.now }
 {
@@ -13,6 +14,7 @@ pub fn head_place(text: &[u8]) -> usize
     text.len()
 }
 
+#[tactic(auto, using(crate::proofs::AnswerLaws::place_ended, crate::proofs::AnswerLaws::place_open), unfolding(stream::specs::Places::line_place))]
 pub fn line_place(text: &[u8]) -> usize
     ensures { result ≡ line_place text.now }
 {
@@ -22,6 +24,7 @@ pub fn line_place(text: &[u8]) -> usize
     text.len()
 }
 
+#[tactic(auto, using(crate::proofs::AnswerLaws::place_ended, crate::proofs::AnswerLaws::place_open), unfolding(stream::specs::Places::trailer_place, stream::specs::Trailer::ends_trailer))]
 pub fn trailer_place(text: &[u8]) -> usize
     ensures { result ≡ trailer_place text.now }
 {

@@ -34,27 +34,13 @@ pub(crate) enum State {
     End,
 }
 
-#[derive(Clone, Copy)]
-pub(crate) enum Next {
-    To(State),
-    Nowhere,
-}
-
-pub(crate) fn next_if(test: bool, next: State) -> Next
-    ensures { meant result ≡ when test (form_at next) }
-{
-    if test {
-        return Next::To(next);
-    }
-    Next::Nowhere
-}
-
 // The end of a run goes before one byte more of it.
-pub(crate) fn end_or(end: bool, next: State, more: bool, stay: State) -> Next
+#[tactic(auto, using(crate::proofs::StepLaws::meant_if))]
+pub(crate) fn end_or(end: bool, next: State, more: bool, stay: State) -> Option<State>
     ensures { meant result ≡ or_else (when end (form_at next)) (when more (form_at stay)) }
 {
     if end {
-        return Next::To(next);
+        return Some(next);
     }
-    next_if(more, stay)
+    more.then_some(stay)
 }
