@@ -2,10 +2,9 @@
 use mathlib.Core.Bool.{Bool}
 use mathlib.Core.List.{List, [], ◌∷◌, ◌++◌}
 use mathlib.Core.Path.{◌≡◌, refl, ap, ◌∙◌}
-use native.Mathlib.Nat.{sub-zero}
 use native.Mathlib.Omega.{arith}
-use Prim.Native.Nat.{ℕ, zero, suc, ◌-◌, min}
-use lib.ListN.{length, take, drop, length-take}
+use Prim.Native.Nat.{ℕ, zero, suc, min}
+use lib.ListN.{length, take, drop}
 use Rattle.ring.specs.declared.KeyRing.{KeyRing}
 use Rattle.stream.specs.Limits.{head_limit, block_limit}
 use Rattle.handing.specs.Handing.{handed_value, handed_count}
@@ -21,11 +20,8 @@ use Rattle.fronts.specs.Fronts.{first_parts, backed, feed_front, answer_front, e
 
 -- ---- a part
 
-pub part_count : (n m : ℕ) (l : List ℕ) → m ≡ min n (length l) → m ≡ length (take m l)
-part_count n m l e = rw length-take (omega arith)
-
-pub part_is : (n m : ℕ) (l : List ℕ) → m ≡ min n (length l) → take (m - 0) l ≡ take n l
-part_is n m l e = rw (sub-zero, e) (take_min n l)
+pub part_is : (n m : ℕ) (l : List ℕ) → m ≡ min n (length l) → take m l ≡ take n l
+part_is n m l e = rw e (take_min n l)
 
 -- ---- a call: i, j and k are the counts that the code lends, h', b' and q' the parts as the call leaves them
 
@@ -57,13 +53,13 @@ module _ (r : Reader) (h b q : List ℕ) (i j k : ℕ) (ei : i ≡ min head_limi
 
 -- ---- what is handed out
 
-pub block_front : (b : List ℕ) (m released : ℕ) (l : List ℕ) → m ≡ min block_limit (length b) → l ≡ block_part (take (m - 0) b) released → l ≡ block_part (take block_limit b) released
+pub block_front : (b : List ℕ) (m released : ℕ) (l : List ℕ) → m ≡ min block_limit (length b) → l ≡ block_part (take m b) released → l ≡ block_part (take block_limit b) released
 block_front b m released l e f = f ∙ ap (λ (b : List ℕ). block_part b released) (part_is block_limit m b e)
 
-pub value_front : (h : List ℕ) (m accepted : ℕ) (name l : List ℕ) → m ≡ min head_limit (length h) → l ≡ handed_value (take (m - 0) h) accepted name → l ≡ handed_value (take head_limit h) accepted name
+pub value_front : (h : List ℕ) (m accepted : ℕ) (name l : List ℕ) → m ≡ min head_limit (length h) → l ≡ handed_value (take m h) accepted name → l ≡ handed_value (take head_limit h) accepted name
 value_front h m accepted name l e f = f ∙ ap (λ (h : List ℕ). handed_value h accepted name) (part_is head_limit m h e)
 
-pub count_front : (h : List ℕ) (m accepted : ℕ) (name : List ℕ) (n : ℕ) → m ≡ min head_limit (length h) → n ≡ handed_count (take (m - 0) h) accepted name → n ≡ handed_count (take head_limit h) accepted name
+pub count_front : (h : List ℕ) (m accepted : ℕ) (name : List ℕ) (n : ℕ) → m ≡ min head_limit (length h) → n ≡ handed_count (take m h) accepted name → n ≡ handed_count (take head_limit h) accepted name
 count_front h m accepted name n e f = f ∙ ap (λ (h : List ℕ). handed_count h accepted name) (part_is head_limit m h e)
 
 -- ---- for callers: of a part as long, put back, and the rest

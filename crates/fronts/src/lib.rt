@@ -12,7 +12,6 @@ ghost use Rattle.fronts.specs.Fronts.{feed_front, answer_front, end_front};
 
 use calls::Outcome;
 use limits::{BLOCK_LIMIT, HEAD_LIMIT};
-use places::least;
 use ring::KeyRing;
 use state::Reader;
 
@@ -28,9 +27,9 @@ pub fn feed(
 ) -> Outcome
     ensures { made result head.new block.new question.new ≡ feed_front ring uri.now (configuration r head.old block.old question.old) piece.now }
 {
-    let h = least(HEAD_LIMIT, head.len());
-    let b = least(BLOCK_LIMIT, block.len());
-    let q = least(HEAD_LIMIT, question.len());
+    let h = HEAD_LIMIT.min(head.len());
+    let b = BLOCK_LIMIT.min(block.len());
+    let q = HEAD_LIMIT.min(question.len());
     reader::feed(
         r,
         &mut head[..h],
@@ -52,9 +51,9 @@ pub fn answer(
 ) -> Outcome
     ensures { made result head.new block.new question.new ≡ answer_front (configuration r head.old block.old question.old) good }
 {
-    let h = least(HEAD_LIMIT, head.len());
-    let b = least(BLOCK_LIMIT, block.len());
-    let q = least(HEAD_LIMIT, question.len());
+    let h = HEAD_LIMIT.min(head.len());
+    let b = BLOCK_LIMIT.min(block.len());
+    let q = HEAD_LIMIT.min(question.len());
     reader::answer(r, &mut head[..h], &mut block[..b], &mut question[..q], good)
 }
 
@@ -62,9 +61,9 @@ pub fn answer(
 pub fn end(r: Reader, head: &mut [u8], block: &mut [u8], question: &mut [u8]) -> Outcome
     ensures { made result head.new block.new question.new ≡ end_front (configuration r head.old block.old question.old) }
 {
-    let h = least(HEAD_LIMIT, head.len());
-    let b = least(BLOCK_LIMIT, block.len());
-    let q = least(HEAD_LIMIT, question.len());
+    let h = HEAD_LIMIT.min(head.len());
+    let b = BLOCK_LIMIT.min(block.len());
+    let q = HEAD_LIMIT.min(question.len());
     reader::end(r, &mut head[..h], &mut block[..b], &mut question[..q])
 }
 
@@ -72,22 +71,22 @@ pub fn end(r: Reader, head: &mut [u8], block: &mut [u8], question: &mut [u8]) ->
 pub fn block_part(block: &[u8], released: usize) -> &[u8]
     ensures { result.now ≡ block_part (take block_limit block.now) released }
 {
-    let n = least(BLOCK_LIMIT, block.len());
-    reader::block_part(&block[0..n], released)
+    let n = BLOCK_LIMIT.min(block.len());
+    reader::block_part(&block[..n], released)
 }
 
 // The value of a signed field.
 pub fn field_part<'a>(head: &'a [u8], accepted: usize, name: &[u8]) -> &'a [u8]
     ensures { result.now ≡ handed_value (take head_limit head.now) accepted name.now }
 {
-    let n = least(HEAD_LIMIT, head.len());
-    reader::field_part(&head[0..n], accepted, name)
+    let n = HEAD_LIMIT.min(head.len());
+    reader::field_part(&head[..n], accepted, name)
 }
 
 // How many lines there are of a signed field.
 pub fn field_count(head: &[u8], accepted: usize, name: &[u8]) -> usize
     ensures { result ≡ handed_count (take head_limit head.now) accepted name.now }
 {
-    let n = least(HEAD_LIMIT, head.len());
-    reader::field_count(&head[0..n], accepted, name)
+    let n = HEAD_LIMIT.min(head.len());
+    reader::field_count(&head[..n], accepted, name)
 }

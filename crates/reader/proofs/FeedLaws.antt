@@ -8,7 +8,7 @@ use Prim.Native.Nat.{ℕ, suc, ◌+◌, ◌-◌, ◌≤◌, ◌<◌}
 use lib.ListN.{length, take, drop, get_or, length-drop, drop_of_length-le}
 use lib.Seq.{drop-cons, take_all, drop-drop}
 use Rattle.octets.specs.Choice.{pick}
-use Rattle.state.specs.Configuration.{Configuration, configuration, goes_on, next_of, Next, on, stop}
+use Rattle.state.specs.Configuration.{Configuration, configuration, goes_on, next_of, on, stop}
 use Rattle.state.specs.Run.{Fed, more, event, follow, run_of}
 use Rattle.body_steps.specs.Skip.{Skip, passed_of, skipped}
 use Rattle.body_steps.specs.declared.runs.Passed.{Passed}
@@ -21,9 +21,6 @@ use Rattle.body_steps.proofs.RunLaws as runs
 use Rattle.reader.specs.Feed.{push_at, push_byte}
 use Rattle.calls.proofs.CallLaws.{no}
 use Rattle.stream.specs.Terms.{Terms}
-
-pub push_at_lem : (terms : Terms) (p p' : Phase) (d : Configuration) (x : ℕ) (n : Next) → p ≡ p' → n ≡ push_at terms p' d x → n ≡ push_at terms p d x
-push_at_lem terms p p' d x n e f = f ∙ ap (λ (p : Phase). push_at terms p d x) (sym e)
 
 pushes_data : (terms : Terms) → PushesData (push_byte terms)
 unfolding push_at
