@@ -50,10 +50,7 @@ eight {A = A} f s a b c d e f' g h l =
     next : (i : ℕ) (x : A) → i < length s → {r : List A} → drop (suc i) s ≡ r → drop i s ≡ get_or s i x ∷ r
     next i x h e = drop-cons s i x h ∙ ap (λ (r : List A). get_or s i x ∷ r) e
 
--- a round by a table's word
-pub round_by : (v : Variant) (k w s r : List ℕ) (i : ℕ) → k ≡ v.constants → r ≡ round v (get_or k i 0) (get_or w i 0) s → r ≡ round_at v i w s
-round_by v k w s r i e f = rw e at f
-
+-- a round more, and four
 pub rounds_turn : (v : Variant) (w s x y : List ℕ) (i : ℕ) → x ≡ rounds v i w s → y ≡ round_at v i w x → y ≡ rounds v (i + 1) w s
 unfolding rounds
 rounds_turn v w s x y i e f = rw add-one (f ∙ ap (round v (get_or v.constants i 0) (get_or w i 0)) e)

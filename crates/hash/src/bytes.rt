@@ -19,8 +19,8 @@ pub(crate) fn bytes_of<S: Words, const SIZE: usize>(words: [S::Word; 8]) -> [u8;
     ensures { result ≡ unparsed S.variant (map S.value words) }
 {
     let mut out = [0u8; SIZE];
-    for i in 0..8 {
-        put_word::<S>(&mut out, i * S::BYTES, words[i]);
+    for (i, word) in words.iter().enumerate() {
+        put_word::<S>(&mut out, i * S::BYTES, *word);
     }
     out
 }

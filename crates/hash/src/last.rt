@@ -36,7 +36,8 @@ fn fill<S: Words>(rest: &[u8], high: S::Word, low: S::Word) -> [u8; 256]
     t
 }
 
-// The hash of a message whose first blocks are hashed to the value s, whose other bytes are body, and whose length in bits high and low write.
+// The hash of a message whose first blocks are hashed to the value s, whose other bytes are body, and whose length in bits the words high
+// and low write. The round words are those that the caller lends.
 pub fn close<S: Sha2<ROUNDS, SIZE>, const ROUNDS: usize, const SIZE: usize>(
     words: &[S::Word; ROUNDS],
     s: [S::Word; 8],

@@ -1,4 +1,5 @@
-// What differs from one hash function of FIPS 180-4 to another: its words, and the functions on them (4.1.2 and 4.1.3).
+// What differs from one hash function of FIPS 180-4 to another: its words, the functions on them (4.1.2 and 4.1.3), and how many rounds
+// and bytes it has.
 ghost use Rattle.std.specs.Prelude.{◌≡◌, ℕ, ◌+◌, ◌*◌, ◌%◌, ◌≤◌, length};
 ghost use Rattle.hash.specs.Sha2.{Variant, plus, ch, maj, Σ, σ, number, big_endian};
 
@@ -59,7 +60,7 @@ pub trait Words {
     ghost bytes_fit: { (1 ≤ BYTES) × (BYTES ≤ 8) };
 }
 
-// A hash function of so many rounds, whose hash has so many bytes.
+// A hash function of so many rounds, whose hash has so many bytes. Four rounds are a turn.
 pub trait Sha2<const ROUNDS: usize, const SIZE: usize>: Words {
     ghost rounds_are: { (16 ≤ ROUNDS) × (ROUNDS % 4 ≡ 0) };
 

@@ -5,7 +5,7 @@ ghost use Rattle.hash.specs.Sha512.{variant};
 
 use crate::words::{Sha2, Words};
 
-pub struct Sha512Words {}
+pub(crate) struct Sha512Words;
 
 impl Words for Sha512Words {
     type Word = u64;

@@ -6,5 +6,5 @@ use Rattle.hash.proofs.bytes.bytes_of.Given as goal
 abbrev pub invariant-loop-i : goal.invariant-loop-i
 invariant-loop-i g l =
     let b = g.S.Words.variant.bytes in
-    (l.out ≡ unparsed g.S.Words.variant (take l.i (map g.S.Words.value l.words)) ++ drop (l.i * b) l.initial.out)
-    × (length l.initial.out ≡ 8 * b) × (length l.out ≡ 8 * b) × (length l.words ≡ 8)
+    (l.out ≡ unparsed g.S.Words.variant (take l.i (map g.S.Words.value l.word-items)) ++ drop (l.i * b) l.initial.out)
+    × (length l.initial.out ≡ 8 * b) × (length l.out ≡ 8 * b) × (length l.word-items ≡ 8)
