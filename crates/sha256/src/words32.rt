@@ -5,7 +5,7 @@ ghost use Rattle.sha256.specs.Sha256.{variant};
 
 use hash::words::{Sha2, Words};
 
-pub struct Sha256Words {}
+pub(crate) struct Sha256Words;
 
 impl Words for Sha256Words {
     type Word = u32;
