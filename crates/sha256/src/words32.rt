@@ -7,6 +7,7 @@ use hash::words::{Sha2, Words};
 
 pub(crate) struct Sha256Words;
 
+// Kept (DESIGN-PASS 2): the operators below are those of u32 itself, so that each type of words has lines of its own, as u64 in crate hash.
 impl Words for Sha256Words {
     type Word = u32;
 
