@@ -9,21 +9,19 @@ ghost use Rattle.hash_export.specs.Export.{made, answered, answered256};
 pub extern "C" fn thawrushes_sha512_after(before: &[u8], message: &[u8], out: &mut [u8]) -> bool
     ensures { made result out.new ≡ answered before.now message.now out.old }
 {
-    if before.len() != 64 {
+    let Ok(start) = <[u8; 64]>::try_from(before) else {
         return false;
-    }
+    };
     if out.len() != 64 {
         return false;
     }
-    let mut start = [0u8; 64];
-    places::put(&mut start, 0, before);
-    let h = hash::sha512_after(start, message);
-    places::put(out, 0, &h);
+    out.copy_from_slice(&hash::sha512_after(start, message));
     true
 }
 
 // Writes the SHA-256 hash of first and then second, fed as two parts, to out. Where out has not 32 bytes, the answer is false and out is left.
 #[unsafe(no_mangle)]
+#[tactic(auto, using(crate::proofs::PartLaws::two_parts))]
 pub extern "C" fn thawrushes_sha256_of_parts(first: &[u8], second: &[u8], out: &mut [u8]) -> bool
     ensures { made result out.new ≡ answered256 first.now second.now out.old }
 {
@@ -31,7 +29,6 @@ pub extern "C" fn thawrushes_sha256_of_parts(first: &[u8], second: &[u8], out: &
         return false;
     }
     let all = sha256::add(sha256::add(sha256::start(), first), second);
-    let h = sha256::finish(all);
-    places::put(out, 0, &h);
+    out.copy_from_slice(&sha256::finish(all));
     true
 }
