@@ -58,6 +58,7 @@ fn may_stand(left: usize, k: usize, b: u8, v: u32) -> bool
 }
 
 // Four characters as a group where so many bytes are left.
+#[tactic(auto, using(crate::proofs::Standing::stops_at_0, crate::proofs::Standing::stops_at_1, crate::proofs::Standing::stops_at_2, crate::proofs::Standing::stops_at_3))]
 fn read_group(left: usize, a: u8, b: u8, c: u8, d: u8) -> Group
     ensures { result ≡ group_of left a b c d }
 {
