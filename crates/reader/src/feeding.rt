@@ -62,20 +62,18 @@ fn take(
 {
     let mut state = r;
     let mut taken = 0;
+    // Kept (DESIGN-PASS 3): a turn takes a run of any length and a byte after it, and how many were taken is told at every end.
     while taken < piece.len() {
         let passed = body_steps::skip(state, block, &piece[taken..]);
-        let run = passed.taken;
-        taken += run;
-        let reader = passed.reader;
+        taken += passed.taken;
         if piece.len() <= taken {
-            return told(Word::More, taken, reader);
+            return told(Word::More, taken, passed.reader);
         }
         let x = piece[taken];
-        let stepped = push(reader, head, block, question, ring, uri, x);
+        let stepped = push(passed.reader, head, block, question, ring, uri, x);
         taken += 1;
-        let word = stepped.word;
         state = stepped.reader;
-        if !state::goes_on(word) {
+        if !state::goes_on(stepped.word) {
             return ended(stepped, taken);
         }
     }
