@@ -129,6 +129,7 @@ const SIGNATURES: [(&str, &str); 5] = [
     ),
 ];
 
+// Kept (DESIGN-PASS 2): it tries another function than `keys`, and no bound `Fn` may name the length of an array.
 pub fn signatures(rt: &impl Print) -> io::Result<()> {
     println!(rt; "\nBase64 of a signature, 64 bytes")?;
     for (what, text) in SIGNATURES {
