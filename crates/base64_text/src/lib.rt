@@ -136,6 +136,7 @@ pub fn check(text: &[u8], n: usize) -> Checked
 
 // Reads text as the base64 of as many bytes as out has. Where it is that, out holds them and the answer is true; else out is as it was. Where out
 // may have any length, there is no room to hold the bytes back until the last group is seen: so the text is gone over twice.
+// Kept (DESIGN-PASS 1): bytes of any number stand in no Option without a heap.
 #[tactic(auto, unfolding(crate::specs::Decoding::decoded))]
 pub fn decode(text: &[u8], out: &mut [u8]) -> bool
     ensures { answered result out.new ≡ decoded (length out.old) text.now out.old }
@@ -169,6 +170,7 @@ fn fill<const N: usize>(text: &[u8], out: &mut [u8; N]) -> bool
 }
 
 // A public key: 44 characters for 32 bytes.
+// Kept (DESIGN-PASS 1): the promise is of what is left in the lent array, as C needs it of `signature`; `bytes` has the Option.
 pub fn key(text: &[u8], out: &mut [u8; 32]) -> bool
     ensures { answered result out.new ≡ decoded 32 text.now out.old }
 {
@@ -176,6 +178,7 @@ pub fn key(text: &[u8], out: &mut [u8; 32]) -> bool
 }
 
 // A signature: 88 characters for 64 bytes.
+// Kept (DESIGN-PASS 1): as of `key`: two names for `fill` at a length, which C and the tests call.
 pub fn signature(text: &[u8], out: &mut [u8; 64]) -> bool
     ensures { answered result out.new ≡ decoded 64 text.now out.old }
 {

@@ -20,6 +20,7 @@ fn join(out: &mut [u8], id: &[u8], offset: &[u8], hash: &[u8]) -> usize
 
 // Writes the message of the block at an offset, of the show whose id is the first bytes of `id`, and returns the message's
 // length. Where it does not fit, nothing is written and 0 returned.
+// Kept (DESIGN-PASS 6): the id as the state has it.
 pub fn message(
     out: &mut [u8],
     id: [u8; 64],

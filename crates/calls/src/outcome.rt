@@ -30,6 +30,7 @@ pub fn told(word: Word, taken: usize, r: Reader) -> Outcome
 }
 
 // A refusal that changes nothing: 1 where the call is not due, 2 where a buffer or the ring has not the size that is asked.
+// Kept (DESIGN-PASS 1): of any number, as `Refusal` has it.
 pub fn unchanged(r: Reader, number: u8) -> Outcome
     ensures { result ≡ record { word = Word.Refused (plain number); taken = 0; signature = no_signature; reader = r } }
 {

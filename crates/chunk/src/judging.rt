@@ -20,6 +20,7 @@ pub struct Line {
 }
 
 // The place is that of the line's text.
+// Kept (DESIGN-PASS 1): the number goes into a `Refusal`, which has any.
 fn refused(line: &[u8], number: u8) -> Refusal
     ensures { result ≡ refusal_of number (line_place line.now) }
 {

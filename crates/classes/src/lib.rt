@@ -47,6 +47,7 @@ fn is_blank(b: u8) -> bool
     matches!(b, b' ' | b'\t')
 }
 
+// Kept (DESIGN-PASS 7): a class is named in contracts and stands in no state as code; an exhaustive match is plainer than a table of functions.
 #[tactic(auto, unfolding(crate::specs::Class::class_of))]
 pub fn is_in(c: Class, b: u8) -> bool
     ensures { result ≡ class_of c b }

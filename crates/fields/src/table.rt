@@ -7,6 +7,7 @@ use field_lines::Entry;
 use limits::FIELD_LIMIT;
 
 // The first `count` entries are fields.
+// Kept (DESIGN-PASS 6): the reader has no heap, and a head has 128 fields at most.
 #[derive(Clone, Copy)]
 pub struct Fields {
     pub count: usize,

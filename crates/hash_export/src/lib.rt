@@ -5,6 +5,7 @@ ghost use Rattle.std.specs.Prelude.{◌≡◌};
 ghost use Rattle.hash_export.specs.Export.{made, answered, answered256};
 
 // Writes the hash of before and then message to out. Where before or out has not 64 bytes, the answer is false and out is left.
+// Kept (DESIGN-PASS 1): the C interface.
 #[unsafe(no_mangle)]
 pub extern "C" fn thawrushes_sha512_after(before: &[u8], message: &[u8], out: &mut [u8]) -> bool
     ensures { made result out.new ≡ answered before.now message.now out.old }
@@ -20,6 +21,7 @@ pub extern "C" fn thawrushes_sha512_after(before: &[u8], message: &[u8], out: &m
 }
 
 // Writes the SHA-256 hash of first and then second, fed as two parts, to out. Where out has not 32 bytes, the answer is false and out is left.
+// Kept (DESIGN-PASS 1): the C interface.
 #[unsafe(no_mangle)]
 #[tactic(auto, using(crate::proofs::PartLaws::two_parts))]
 pub extern "C" fn thawrushes_sha256_of_parts(first: &[u8], second: &[u8], out: &mut [u8]) -> bool

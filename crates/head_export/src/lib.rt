@@ -20,6 +20,7 @@ fn one_key(text: &[u8], first: u64, last: u64) -> KeyRing
     ring::added(ring::empty(), KeyRecord { key, first, last })
 }
 
+// Kept (DESIGN-PASS 1): the number is what C is told.
 fn number_of(answer: Result<Asked, Refusal>) -> u8
     ensures { result ≡ number_of answer }
 {

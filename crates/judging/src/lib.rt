@@ -24,6 +24,7 @@ use ring::KeyRing;
 
 // A head that is accepted if `signature` is the signature of the string whose `length` bytes were written: the status, the size of a block, the
 // bytes of the body that the answer carries, the number of the key's record, and the id, the first `id_length` bytes of `id`.
+// Kept (DESIGN-PASS 6): the reader has no heap: the id as `Injection` has it.
 #[derive(Clone, Copy)]
 pub struct Asked {
     pub status: u64,
@@ -58,6 +59,7 @@ pub fn judge(text: &[u8], ring: KeyRing, uri: &[u8], question: &mut [u8]) -> Res
 }
 
 // The place is that of the head's text.
+// Kept (DESIGN-PASS 1): the number goes into a `Refusal`, which has any.
 fn refused(text: &[u8], number: u8) -> Refusal
     ensures { result ≡ refusal_of number (head_place text.now) }
 {

@@ -16,6 +16,7 @@ pub(crate) fn numbers(e: Extent) -> [u64; 4]
 }
 
 // The extent of four numbers. A kind that is no part's is the whole.
+// Kept (DESIGN-PASS 1): the number is one of the bytes that C lends, any of which may be another.
 #[tactic(auto, unfolding(crate::specs::State::extent_from))]
 pub(crate) fn extent(kind: u64, first: u64, last: u64, total: u64) -> Extent
     ensures { result ≡ extent_from kind first last total }

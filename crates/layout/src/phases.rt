@@ -25,6 +25,7 @@ pub(crate) fn numbers(p: Phase) -> [u64; 3]
 }
 
 // The phase of three numbers. A tag that is no phase's gives a last one.
+// Kept (DESIGN-PASS 1): the number is one of the bytes that C lends, any of which may be another.
 #[tactic(auto, unfolding(crate::specs::State::phase_of))]
 pub(crate) fn phase(tag: u64, a: u64, b: u64) -> Phase
     ensures { result ≡ phase_of tag a b }

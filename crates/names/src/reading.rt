@@ -7,6 +7,7 @@ use limits::NAME_LIMIT;
 use places::Span;
 
 // The first `count` spans are names.
+// Kept (DESIGN-PASS 6): the reader has no heap, and a list has 32 names at most.
 #[derive(Clone, Copy)]
 pub struct Names {
     pub count: usize,

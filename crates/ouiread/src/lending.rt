@@ -11,6 +11,7 @@ use ring::KeyRecord;
 use state::Reader;
 
 // A feed with the first `count` of the records as a lent table: a count is never over the room. It is lent here alone: all above has the ring by value.
+// Kept (DESIGN-PASS 6): the ring as the reader takes it; the claims name this contract.
 pub fn feed(
     r: Reader,
     head: &mut [u8],

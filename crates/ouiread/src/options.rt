@@ -2,6 +2,7 @@
 // file, which must be there, --tally and --where.
 
 // The files' names, and what else is asked for.
+// Kept (DESIGN-PASS 1): a flag here is an option of its own, and says nothing of another field.
 #[derive(Drop)]
 pub struct Asked {
     pub stream: Vec<u8>,

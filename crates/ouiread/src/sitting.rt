@@ -33,6 +33,7 @@ pub struct Body<'a> {
 }
 
 // What is asked of the stream: whose keys are trusted, which URI is wanted, and whether places are told.
+// Kept (DESIGN-PASS 1): the flag is an option of its own, and says nothing of another field.
 #[derive(Clone, Copy)]
 pub struct Terms<'a> {
     pub ring: KeyRing,

@@ -8,6 +8,7 @@ use crate::parts;
 use classes::Class;
 
 // The first `id_length` bytes of `id` are the id. All is zero where the value is not good.
+// Kept (DESIGN-PASS 6): the reader has no heap, and an id has 64 bytes at most.
 #[derive(Clone, Copy)]
 pub struct Injection {
     pub good: bool,

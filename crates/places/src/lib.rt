@@ -16,6 +16,7 @@ pub struct Span {
 }
 
 // Whether a text is good, and how many of its first bytes some good text also has.
+// Kept (DESIGN-PASS 1): the place is told of a good text too, so it is no error's.
 #[derive(Clone, Copy)]
 pub struct Checked {
     pub good: bool,

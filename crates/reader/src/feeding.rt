@@ -19,6 +19,7 @@ fn not_due(r: Reader) -> Stepped
 }
 
 // One byte, by the phase.
+// Kept (DESIGN-PASS 7): the phase is what C keeps between calls, so the step is found from it, by a match that leaves no phase out.
 #[tactic(auto, unfolding(crate::specs::Feed::push_at))]
 fn push(
     r: Reader,

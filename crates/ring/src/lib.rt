@@ -16,6 +16,7 @@ pub struct KeyRecord {
 }
 
 // The first `count` records are the ring's, all of them where the count is higher; the others say nothing.
+// Kept (DESIGN-PASS 6): the reader has no heap, and C lends a ring as its records, of which there are 16 at most.
 #[derive(Clone, Copy)]
 pub struct KeyRing {
     pub count: usize,

@@ -8,6 +8,7 @@ use crate::{chunk_steps, field_steps};
 use classes::Class;
 use places::Checked;
 
+// Kept (DESIGN-PASS 7): what is to come is data, for the proof as for the loop, and the match leaves none out.
 #[tactic(auto, using(crate::proofs::StepLaws::meant_if, crate::proofs::StepLaws::return_arm, crate::proofs::StepLaws::line_arm, crate::proofs::StepLaws::lines_arm, crate::proofs::StepLaws::field_arm, crate::proofs::StepLaws::field_name_arm, crate::proofs::StepLaws::value_arm, crate::proofs::StepLaws::name_arm, crate::proofs::StepLaws::name_rest_arm), unfolding(classes::specs::Class::class_of, scanner::specs::Form::step_form))]
 fn step(s: State, b: u8) -> Option<State>
     ensures { meant result ≡ step_form (form_at s) b }

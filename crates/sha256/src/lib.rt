@@ -17,6 +17,7 @@ mod words32;
 
 // What is kept while bytes come: the hash value after the whole blocks, the bytes after them (count % 64 of rest), and how many came,
 // modulo 2^64.
+// Kept (DESIGN-PASS 6): the reader has no heap, and the state has its places in the bytes that C lends.
 #[derive(Clone, Copy)]
 pub struct Midstate {
     pub words: [u32; 8],

@@ -26,6 +26,7 @@ pub enum Phase {
     // The three last words.
     Closed(u64),
     Complete(u64),
+    // Kept (DESIGN-PASS 1): a state that C lends may have any byte here, and `layout::load` promises which reader that is.
     Refused(u8),
 }
 

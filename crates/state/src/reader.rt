@@ -9,6 +9,7 @@ use ranges::Extent;
 use sha256::Midstate;
 
 // What the head fixes for the rest of the stream.
+// Kept (DESIGN-PASS 6): the reader has no heap, and the state has its places in the bytes that C lends.
 #[derive(Clone, Copy)]
 pub struct Fixed {
     // The head's length once it was accepted, else 0.

@@ -49,6 +49,7 @@ fn with_closed(t: Tally) -> Tally
 }
 
 // One stream more that was refused; 1 and 2 refuse a call and no stream.
+// Kept (DESIGN-PASS 1): a word may carry any number, and `counted` promises an answer for each.
 fn with_refused(t: Tally, number: u8) -> Tally
     ensures { result ≡ refused_by t number }
 {
