@@ -25,16 +25,14 @@ pub fn field_count(head: &[u8], accepted: usize, name: &[u8]) -> usize
 }
 
 // The accepted head: no bytes, which are no head, where the buffer is too short.
+#[tactic(auto, unfolding(crate::specs::Handing::accepted_head))]
 pub fn accepted_head(head: &[u8], accepted: usize) -> &[u8]
     ensures { result.now ≡ accepted_head head.now accepted }
 {
-    if head.len() < HEAD_LIMIT {
-        return &head[0..0];
+    if (head.len() < HEAD_LIMIT) | (head.len() < accepted) {
+        return &head[..0];
     }
-    if head.len() < accepted {
-        return &head[0..0];
-    }
-    &head[0..accepted]
+    &head[..accepted]
 }
 
 // The fields of a good head that signs the name; else none.
@@ -42,10 +40,9 @@ fn signed_fields(text: &[u8], name: &[u8]) -> Fields
     ensures { values_of name.now (fields_in text.now result) ≡ values_of name.now (fields_out text.now) }
 {
     let head = head::read(text);
-    let table = head.fields;
     let signed = head.signed;
     let sig0 = signed.sig0;
     let list = places::part(text, sig0.names_start, sig0.names_end);
     let given = (head.fault == 0) & names::among(list, signed.names, name, 2);
-    if given { table } else { fields::none() }
+    if given { head.fields } else { fields::none() }
 }
