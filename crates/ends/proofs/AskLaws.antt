@@ -28,7 +28,7 @@ use Rattle.signing.specs.Writing.{added_line, string_of}
 use Rattle.signing.proofs.StringLaws.{following_joined, text_joined}
 use Rattle.ends.specs.Judgement.{judged, asked}
 use Rattle.ends.specs.Steps.{Faultless, fault_after, asked_after}
-use Rattle.ends.specs.declared.trailer.EndAnswer.TheVariants.{Asks}
+use Rattle.std.specs.Prelude.{Ok, Some}
 use Rattle.ends.proofs.FaultLaws.{all_there, reads_end}
 
 module _ (text : List ℕ) (r : HeadRead) (x : Reads text r) (z : r.fault ≡ 0) (trailer : List ℕ) (e : EndRead)
@@ -87,7 +87,7 @@ module _ (text : List ℕ) (r : HeadRead) (x : Reads text r) (z : r.fault ≡ 0)
           u ∙ wrote_more question 0 (string ++ added_line digest_name digest) n' b' (w' ∙ wrote_more question 0 string n b w (added_line digest_name digest)) (added_line data_size_name size)
           ∙ ap (wrote question 0) string_there ∙ wrote_front question (end_string (head_of text) (ends_in fs)) (le_trans fits h)
 
-      pub asked_is : judged (record { answer = Asks k; signature = e.sig1.signature }) c ≡ asked_after text trailer question
+      pub asked_is : judged (Ok (Some (record { signature = e.sig1.signature; length = k }))) c ≡ asked_after text trailer question
       unfolding asked_after asked ends_in
       asked_is =
           rw (

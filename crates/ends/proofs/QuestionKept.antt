@@ -16,18 +16,19 @@ use Rattle.stream.specs.Rule.{first_broken}
 use Rattle.stream.specs.Trailer.{is_trailer}
 use Rattle.stream.proofs.EndString.{short_ends, end_fits}
 use Rattle.ends.specs.Judgement.{Judgement, asked, end_answered, end_judged, trailer_judged}
-use Rattle.ends.specs.declared.trailer.EndAnswer.{EndAnswer}
-use Rattle.ends.specs.declared.trailer.EndAnswer.TheVariants as N
+use Rattle.ends.specs.declared.trailer.Asked.{Asked}
+use Rattle.refusals.specs.declared.Refusal.{Refusal}
+use Rattle.std.specs.Prelude.{Option, Some, None, Result, Ok, Err}
 
 -- a question of n bytes has room
-abbrev pub Within : ℕ → EndAnswer → Type 0
-Within room N.Closes = Unit {0}
-Within room (N.Refused why) = Unit {0}
-Within room (N.Asks n) = n ≤ room
+abbrev pub Within : ℕ → Result (Option Asked) Refusal → Type 0
+Within room (Ok None) = Unit {0}
+Within room (Ok (Some a)) = a.length ≤ room
+Within room (Err why) = Unit {0}
 
 pub record Kept (q : List ℕ) (j : Judgement) : Type 0 where
   pub same : length j.question ≡ length q
-  pub within : Within (length q) j.answer.answer
+  pub within : Within (length q) j.answer
 
 kept_pick : (q : List ℕ) (t : Bool) (j k : Judgement) → (t ≡ true → Kept q j) → Kept q k → Kept q (pick t j k)
 kept_pick q true j k a b = a refl

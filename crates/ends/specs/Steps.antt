@@ -1,5 +1,5 @@
 -- The rules of the end in the groups in which the code tests them. No public contract names these. Assumes nothing.
-use Rattle.std.specs.Prelude.{Bool, ◌&&◌, not, List, ◌≡◌, ℕ, eqb, length}
+use Rattle.std.specs.Prelude.{Bool, ◌&&◌, not, List, ◌≡◌, ℕ, zero, suc, eqb, length, Option, Some, None}
 use Rattle.octets.specs.Choice.{pick}
 use Rattle.end_fields.specs.Reading.{are_once}
 use Rattle.end_fields.specs.declared.reading.EndRead.{EndRead}
@@ -23,6 +23,11 @@ is_well_made h fs =
 -- the first broken rule, by whether those are kept, and each that comes after them
 abbrev pub fault_by : Bool → Bool → Bool → Bool → ℕ
 fault_by made size digest key = pick made (pick size (pick digest (pick key 0 12) 15) 14) 13
+
+-- none for the 0 that says that none is broken
+abbrev pub number_of : ℕ → Option ℕ
+number_of zero = None
+number_of (suc n) = Some (suc n)
 
 -- by what was read
 unfoldable pub read_fault : EndRead → Bool → ℕ → List ℕ → List ℕ → ℕ

@@ -1,12 +1,12 @@
 // The question over Sig1: the signing string of the head, with Sig1's own time, and two lines more.
-ghost use Rattle.std.specs.Prelude.{◌≡◌, ◌≤◌, length};
+ghost use Rattle.std.specs.Prelude.{◌≡◌, ◌≤◌, length, Ok, Some};
 ghost use Rattle.end_fields.specs.Found.{AreLines, both_in};
 ghost use Rattle.end_fields.specs.Reading.{ReadsEnd};
 ghost use Rattle.head.specs.Reading.{Reads};
 ghost use Rattle.ends.specs.Judgement.{judged};
 ghost use Rattle.ends.specs.Steps.{Faultless, asked_after};
 
-use crate::trailer::{EndAnswer, EndJudged};
+use crate::trailer::Asked;
 use end_fields::EndRead;
 use head::HeadRead;
 
@@ -17,14 +17,14 @@ pub(crate) fn ask<'a>(
     trailer: &'a [u8],
     e: EndRead,
     question: &mut [u8],
-) -> EndJudged
+) -> Asked
     requires reads { Reads text.now head }
     requires fault_value { head.fault ≡ 0 }
     requires are_lines { AreLines trailer.now }
     requires reads_end { ReadsEnd (both_in text.now head.fields trailer.now) e }
     requires faultless { Faultless text.now trailer.now }
     requires text_in_bounds { length text.now ≤ length question.old }
-    ensures { judged result question.new ≡ asked_after text.now trailer.now question.old }
+    ensures { judged (Ok (Some result)) question.new ≡ asked_after text.now trailer.now question.old }
 {
     let table = head.fields;
     let signed = head.signed;
@@ -40,8 +40,5 @@ pub(crate) fn ask<'a>(
     let size = end_fields::value_of(text, table, trailer, b"x-ouinet-data-size");
     let length = signing::put_added(question, next, b"x-ouinet-data-size", size);
     let signature = sig1.signature;
-    EndJudged {
-        answer: EndAnswer::Asks { length },
-        signature,
-    }
+    Asked { signature, length }
 }

@@ -6,4 +6,4 @@ mod faults; // the first broken rule of the end
 mod asking; // the question over Sig1
 mod trailer; // a trailer judged
 
-pub use trailer::{EndAnswer, EndJudged, judge};
+pub use trailer::{Asked, judge};

@@ -25,11 +25,11 @@ module _ (text trailer : List ℕ) {said : HeadRead} {checked : Bool} (x : Reads
   checked_is = ap₂ is_checked (sym (range_there text said x z trailer)) (sym (all_there text said x z trailer)) ∙ sym (e (trailer_lines trailer g))
 
 pub returns-then-not-is_trailer : goal.returns-then-not-is_trailer
-returns-then-not-is_trailer c = rw (c.refused.ensures, c.trailer_place-at.ensures) (judged_text _ _ _ _ _ (sym c.is_trailer.ensures ∙ c.if-not-is_trailer.true))
+returns-then-not-is_trailer c = rw c.trailer_place-at.ensures (judged_text _ _ _ _ _ (sym c.is_trailer.ensures ∙ c.if-not-is_trailer.true))
 
 pub returns-then-read-ne0 : goal.returns-then-read-ne0
 returns-then-read-ne0 c =
-    rw (c.refused-then-read-ne0.ensures, c.plain.ensures)
+    rw c.plain.ensures
     (judged_head _ _ _ _ _ (sym c.is_trailer.ensures ∙ c.if-not-is_trailer.false) (λ k. c.if-read-ne0.true (c.read-read.ensures.fault ∙ k)))
 
 pub returns-then-not-is_checked : goal.returns-then-not-is_checked
