@@ -1,2 +1,1 @@
-pub mod TrailerLaws
 pub mod KeptTrailer
