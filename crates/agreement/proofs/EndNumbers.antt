@@ -9,8 +9,9 @@ use lib.Dec.{eqb, leb}
 use lib.ListN.{length}
 use Rattle.octets.specs.Choice.{pick}
 use Rattle.ends.specs.Judgement.{Judgement, asked, end_answered, end_judged, trailer_judged}
-use Rattle.ends.specs.declared.trailer.EndAnswer.{EndAnswer}
-use Rattle.ends.specs.declared.trailer.EndAnswer.TheVariants as N
+use Rattle.ends.specs.declared.trailer.Asked as End
+use Rattle.refusals.specs.declared.Refusal.{Refusal}
+use Rattle.std.specs.Prelude.{Option, Result, Ok, Err}
 use Rattle.stream.specs.Ends.{is_checked, ends_in, end_fault}
 use Rattle.stream.specs.Head.{Head, head_of, text_rules, range_of}
 use Rattle.stream.specs.Lines.{Field}
@@ -18,24 +19,23 @@ use Rattle.stream.specs.Rule.{first_broken}
 use Rattle.stream.specs.Trailer.{is_trailer}
 use Rattle.agreement.proofs.Refusals.{end_number}
 
-abbrev pub Numbered : EndAnswer → Type 0
-Numbered N.Closes = Unit {0}
-Numbered (N.Refused why) = 3 ≤ why.number
-Numbered (N.Asks n) = Unit {0}
+abbrev pub Numbered : Result (Option End.Asked) Refusal → Type 0
+Numbered (Ok asked) = Unit {0}
+Numbered (Err why) = 3 ≤ why.number
 
-numbered_pick : (t : Bool) (j k : Judgement) → Numbered j.answer.answer → Numbered k.answer.answer → Numbered (pick t j k).answer.answer
+numbered_pick : (t : Bool) (j k : Judgement) → Numbered j.answer → Numbered k.answer → Numbered (pick t j k).answer
 numbered_pick true j k a b = a
 numbered_pick false j k a b = b
 
-numbered_end : (most : ℕ) (h : Head) (fs : List Field) (total : ℕ) (hash q : List ℕ) → Numbered (end_judged most h fs total hash q).answer.answer
+numbered_end : (most : ℕ) (h : Head) (fs : List Field) (total : ℕ) (hash q : List ℕ) → Numbered (end_judged most h fs total hash q).answer
 unfolding end_judged end_answered asked
 numbered_end most h fs total hash q = numbered_pick (is_checked (range_of h) fs) _ _ (by (end_fault h fs total hash) refl) tt
   where
-    by : (fault : ℕ) → end_fault h fs total hash ≡ fault → Numbered (end_answered most h (ends_in fs) fault q).answer.answer
+    by : (fault : ℕ) → end_fault h fs total hash ≡ fault → Numbered (end_answered most h (ends_in fs) fault q).answer
     by zero e = numbered_pick (leb most (length q)) _ _ tt (omega arith)
     by (suc k) e = rw (ne_eqb (suc k) 0 (λ x. omega arith)) (end_number h fs total hash k e)
 
-pub numbered : (l t : List ℕ) (total : ℕ) (hash q : List ℕ) → Numbered (trailer_judged l t total hash q).answer.answer
+pub numbered : (l t : List ℕ) (total : ℕ) (hash q : List ℕ) → Numbered (trailer_judged l t total hash q).answer
 unfolding trailer_judged
 numbered l t total hash q =
     numbered_pick (is_trailer t) _ _

@@ -26,8 +26,8 @@ use Rattle.line_steps.specs.FirstLine.{range_now, first_now, first_judged, first
 use Rattle.line_steps.specs.NextLine.{next_judged, next_answered, next_gathered, push_next_line}
 use Rattle.body_steps.specs.Data.{push_data, push_data_end}
 use Rattle.ends.specs.Judgement.{Judgement}
-use Rattle.ends.specs.declared.trailer.EndAnswer.{EndAnswer}
-use Rattle.ends.specs.declared.trailer.EndAnswer.TheVariants as N
+use Rattle.ends.specs.declared.trailer.Asked as End
+use Rattle.std.specs.Prelude.{Option, Some, None, Result, Ok, Err}
 use Rattle.trailer_steps.specs.Trailer.{trailer_answered, judged_at, trailer_gathered, push_trailer}
 use Rattle.line_steps.specs.NextLine as Line
 use Rattle.state.specs.Run.{follow, run_of}
@@ -96,15 +96,15 @@ fine_next_line d have size x =
     (fine_next _ size d.reader.fixed.block_size (range_now d.reader) (eqb size d.reader.fixed.block_size) _ _ _ _ refl) refl)
 
 -- a trailer's, and the end's
-fine_answered : (d : Configuration) (have total : ℕ) (j : Judgement) → Numbered j.answer.answer → Fine (judged_at d have total j)
+fine_answered : (d : Configuration) (have total : ℕ) (j : Judgement) → Numbered j.answer → Fine (judged_at d have total j)
 unfolding trailer_answered
-fine_answered d have total j h = by j.answer.answer h
+fine_answered d have total j h = by j.answer h
   where
-    by : (a : EndAnswer) → Numbered a
-        → Fine (trailer_answered (configuration d.reader d.head d.block j.question) have total a j.answer.signature)
-    by N.Closes h = refl
-    by (N.Refused why) h = fine_refuse why have _ h
-    by (N.Asks n) h = refl
+    by : (judged : Result (Option End.Asked) Refusal) → Numbered judged
+        → Fine (trailer_answered (configuration d.reader d.head d.block j.question) have total judged)
+    by (Ok None) h = refl
+    by (Ok (Some a)) h = refl
+    by (Err why) h = fine_refuse why have _ h
 
 fine_trailer : (d : Configuration) (have total x : ℕ) → Fine (push_trailer d have total x)
 unfolding push_trailer trailer_gathered

@@ -7,7 +7,7 @@ use lib.Dec.{eqb, leb}
 use lib.ListN.{length, take, set, get_or}
 use Rattle.octets.specs.Choice.{pick}
 use Rattle.chunk.specs.declared.judging.Line as Chunk
-use Rattle.std.specs.Prelude.{Result, Ok, Err}
+use Rattle.std.specs.Prelude.{Option, Some, None, Result, Ok, Err}
 use Rattle.refusals.specs.declared.Refusal.{Refusal}
 use Rattle.ring.specs.Keys.{terms_of}
 use Rattle.ring.specs.declared.KeyRing.{KeyRing}
@@ -29,8 +29,7 @@ use Rattle.line_steps.specs.FirstLine.{first_answered, first_gathered, push_firs
 use Rattle.line_steps.specs.NextLine.{next_answered, next_gathered, push_next_line}
 use Rattle.line_steps.specs.NextLine as Line
 use Rattle.body_steps.specs.Data.{push_data, push_data_end}
-use Rattle.ends.specs.declared.trailer.EndAnswer.{EndAnswer}
-use Rattle.ends.specs.declared.trailer.EndAnswer.TheVariants as N
+use Rattle.ends.specs.declared.trailer.Asked as End
 use Rattle.trailer_steps.specs.Trailer.{trailer_answered, trailer_gathered, push_trailer}
 use Rattle.calls.specs.Answer.{head_answer, block_answer, answer_at, answer_of, end_of, end_answer}
 use Rattle.calls.specs.Response as R
@@ -68,11 +67,11 @@ unfolding head_answered
 unsigned_head d n (Err why) = unsigned_refuse why 0 d
 unsigned_head d n (Ok a) = λ e. absurd (true≢false e)
 
-unsigned_trailer : (d : Configuration) (have total : ℕ) (a : EndAnswer) (signature : List ℕ) → Unsigned (trailer_answered d have total a signature)
+unsigned_trailer : (d : Configuration) (have total : ℕ) (judged : Result (Option End.Asked) Refusal) → Unsigned (trailer_answered d have total judged)
 unfolding trailer_answered
-unsigned_trailer d have total N.Closes signature = λ e. refl
-unsigned_trailer d have total (N.Refused why) signature = unsigned_refuse why have d
-unsigned_trailer d have total (N.Asks n) signature = λ e. absurd (true≢false e)
+unsigned_trailer d have total (Ok None) = λ e. refl
+unsigned_trailer d have total (Err why) = unsigned_refuse why have d
+unsigned_trailer d have total (Ok (Some a)) = λ e. absurd (true≢false e)
 
 unsigned_push : (terms : Terms) (d : Configuration) (p : Phase) (x : ℕ) → Unsigned (push_at terms p d x)
 unfolding push_at push_head head_gathered push_data push_data_end push_first_line first_gathered push_next_line next_gathered push_trailer trailer_gathered
@@ -93,7 +92,7 @@ unsigned_push terms d (P.BlockAsked size next) x = λ e. refl
 unsigned_push terms d (P.Trailer have total) x =
     let text = take (have + 1) (set d.block have x) in
     unsigned_pick (leb (length d.block) have) _ _ (unsigned_refuse _ have d)
-    (unsigned_pick (is_whole_trailer text) _ _ (unsigned_trailer _ (have + 1) total _ _) tt)
+    (unsigned_pick (is_whole_trailer text) _ _ (unsigned_trailer _ (have + 1) total _) tt)
 unsigned_push terms d (P.EndAsked have total) x = λ e. refl
 unsigned_push terms d (P.Closed total) x = λ e. refl
 unsigned_push terms d (P.Complete total) x = λ e. refl

@@ -8,7 +8,7 @@ use lib.Dec.{eqb, leb}
 use lib.ListN.{length, take, set, get_or}
 use Rattle.octets.specs.Choice.{pick}
 use Rattle.chunk.specs.declared.judging.Line as Chunk
-use Rattle.std.specs.Prelude.{Result, Ok, Err}
+use Rattle.std.specs.Prelude.{Option, Some, None, Result, Ok, Err}
 use Rattle.refusals.specs.declared.Refusal.{Refusal}
 use Rattle.ring.specs.Keys.{terms_of}
 use Rattle.ring.specs.declared.KeyRing.{KeyRing}
@@ -25,8 +25,7 @@ use Rattle.head_steps.specs.HeadByte.{head_answered, head_gathered, push_head}
 use Rattle.line_steps.specs.FirstLine.{first_answered, first_gathered, push_first_line}
 use Rattle.line_steps.specs.NextLine.{next_answered, next_gathered, push_next_line}
 use Rattle.body_steps.specs.Data.{push_data, push_data_end}
-use Rattle.ends.specs.declared.trailer.EndAnswer.{EndAnswer}
-use Rattle.ends.specs.declared.trailer.EndAnswer.TheVariants as N
+use Rattle.ends.specs.declared.trailer.Asked as End
 use Rattle.trailer_steps.specs.Trailer.{trailer_answered, trailer_gathered, push_trailer}
 use Rattle.line_steps.specs.NextLine as Line
 use Rattle.state.specs.Run.{Fed, follow, run_of}
@@ -64,11 +63,11 @@ unfolding next_answered Line.asked
 past_next d size (Err why) = past_refuse why size d
 past_next d size (Ok line) = tt
 
-past_trailer : (d : Configuration) (have total : ℕ) (a : EndAnswer) (signature : List ℕ) → Past (trailer_answered d have total a signature)
+past_trailer : (d : Configuration) (have total : ℕ) (judged : Result (Option End.Asked) Refusal) → Past (trailer_answered d have total judged)
 unfolding trailer_answered
-past_trailer d have total N.Closes signature = tt
-past_trailer d have total (N.Refused why) signature = past_refuse why have d
-past_trailer d have total (N.Asks n) signature = tt
+past_trailer d have total (Ok None) = tt
+past_trailer d have total (Ok (Some a)) = tt
+past_trailer d have total (Err why) = past_refuse why have d
 
 past_push : (terms : Terms) (d : Configuration) (p : Phase) (x : ℕ) → is_in_head p ≡ false → Past (push_at terms p d x)
 unfolding push_at push_data push_data_end push_first_line first_gathered push_next_line next_gathered push_trailer trailer_gathered
@@ -89,7 +88,7 @@ past_push terms d (P.BlockAsked size next) x e = tt
 past_push terms d (P.Trailer have total) x e =
     let text = take (have + 1) (set d.block have x) in
     past_pick (leb (length d.block) have) _ _ (past_refuse _ have d)
-    (past_pick (is_whole_trailer text) _ _ (past_trailer _ (have + 1) total _ _) refl)
+    (past_pick (is_whole_trailer text) _ _ (past_trailer _ (have + 1) total _) refl)
 past_push terms d (P.EndAsked have total) x e = tt
 past_push terms d (P.Closed total) x e = tt
 past_push terms d (P.Complete total) x e = tt

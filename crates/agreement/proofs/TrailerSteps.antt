@@ -11,7 +11,6 @@ use lib.Seq.{take-append_seam}
 use Rattle.octets.specs.Choice.{pick}
 use Rattle.ends.specs.Judgement.{Judgement, end_answered, end_judged, trailer_judged}
 use Rattle.ends.specs.Judgement as J
-use Rattle.ends.specs.declared.trailer.EndAnswer.TheVariants as N
 use Rattle.handing.specs.Handing.{accepted_head}
 use Rattle.refusals.specs.Refusals.{placed, plain}
 use Rattle.sections.specs.Reading.{question, ask, stop, final}
@@ -107,7 +106,7 @@ module _ (terms : Terms) (fields : List Field) (d : Configuration) (x : ℕ) (le
     end_follows : (t : Bool) → Gathered (set d.block have x) (have + 1) text
         → Follows terms fields
         (judged_at after (have + 1) total
-        (pick t (end_answered (length l) s.head (ends_in fs) (end_fault s.head fs total hash) d.question) (J.judged (J.saying N.Closes) d.question)))
+        (pick t (end_answered (length l) s.head (ends_in fs) (end_fault s.head fs total hash) d.question) (J.closing d.question)))
         (ruling (elim t [
           | true ↦ unless_broken (end_fault s.head fs total hash) 0 (ask (end_question s fs) (final (complete total)))
           | false ↦ stop (closed total)

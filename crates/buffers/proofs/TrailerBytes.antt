@@ -11,7 +11,6 @@ use lib.ListN.{length, set}
 use Rattle.octets.specs.Choice.{pick}
 use Rattle.ends.specs.Judgement.{end_answered, end_judged, trailer_judged}
 use Rattle.ends.specs.Judgement as J
-use Rattle.ends.specs.declared.trailer.EndAnswer.TheVariants as N
 use Rattle.handing.specs.Handing.{accepted_head}
 use Rattle.refusals.specs.Refusals.{placed, plain}
 use Rattle.sections.specs.Reading.{ask, stop, final}
@@ -76,7 +75,7 @@ module _ (terms : Terms) (fields : List Field) (d : Configuration) (x : ℕ) (le
           → Left terms
           (after_next
           (judged_at after (have + 1) total
-          (pick t (end_answered (length l) s.head (ends_in fs) (end_fault s.head fs total hash) d.question) (J.judged (J.saying N.Closes) d.question))))
+          (pick t (end_answered (length l) s.head (ends_in fs) (end_fault s.head fs total hash) d.question) (J.closing d.question))))
           (mark_of
           (ruling_on (rules terms) effects (C.trailer s p total) text
           (elim t [

@@ -13,7 +13,7 @@ use Rattle.blocks.specs.Writing.{message_written, at_front}
 use Rattle.number.specs.Writing.{written}
 use Rattle.chunk.specs.declared.judging.Line as Chunk
 use Rattle.refusals.specs.declared.Refusal.{Refusal}
-use Rattle.std.specs.Prelude.{Result, Ok, Err}
+use Rattle.std.specs.Prelude.{Option, Some, None, Result, Ok, Err}
 use Rattle.stream.specs.Blocks.{is_whole_line}
 use Rattle.stream.specs.Bytes.{same}
 use Rattle.stream.specs.Limits.{line_limit}
@@ -30,8 +30,7 @@ use Rattle.line_steps.specs.NextLine as Line
 use Rattle.line_steps.proofs.KeptLines.{kept_first_line, kept_next_line}
 use Rattle.body_steps.specs.Data.{push_data, push_data_end}
 use Rattle.body_steps.proofs.KeptBody.{kept_data, kept_data_end}
-use Rattle.ends.specs.declared.trailer.EndAnswer.{EndAnswer}
-use Rattle.ends.specs.declared.trailer.EndAnswer.TheVariants as N
+use Rattle.ends.specs.declared.trailer.Asked as End
 use Rattle.ends.proofs.QuestionKept.{Within, judgement_kept}
 use Rattle.trailer_steps.specs.Trailer.{trailer_answered, trailer_gathered, push_trailer}
 use Rattle.trailer_steps.proofs.KeptTrailer.{kept_trailer}
@@ -60,11 +59,11 @@ named_next d e size (Ok line) p = rw p (count_fits _ d.question)
 
 -- ---- the trailer
 
-named_trailer : (d e : Configuration) (have total : ℕ) (a : EndAnswer) (signature : List ℕ) → Within (length e.question) a → NamedNext (trailer_answered d have total a signature) e
+named_trailer : (d e : Configuration) (have total : ℕ) (judged : Result (Option End.Asked) Refusal) → Within (length e.question) judged → NamedNext (trailer_answered d have total judged) e
 unfolding trailer_answered
-named_trailer d e have total N.Closes signature w = tt
-named_trailer d e have total (N.Refused why) signature w = named_refuse why have d e
-named_trailer d e have total (N.Asks n) signature w = w
+named_trailer d e have total (Ok None) w = tt
+named_trailer d e have total (Ok (Some a)) w = w
+named_trailer d e have total (Err why) w = named_refuse why have d e
 
 -- ---- any byte
 
@@ -103,7 +102,7 @@ named_push terms d (P.BlockAsked size next) x = tt
 named_push terms d (P.Trailer have total) x =
     let text = take (have + 1) (set d.block have x) in
     named_pick d (leb (length d.block) have) _ _ (named_refuse _ have d d)
-    (named_pick d (is_whole_trailer text) _ _ (named_trailer _ d (have + 1) total _ _ (judgement_kept _ _ total _ d.question).within) tt)
+    (named_pick d (is_whole_trailer text) _ _ (named_trailer _ d (have + 1) total _ (judgement_kept _ _ total _ d.question).within) tt)
 named_push terms d (P.EndAsked have total) x = tt
 named_push terms d (P.Closed total) x = tt
 named_push terms d (P.Complete total) x = tt
