@@ -10,12 +10,9 @@ use lib.Dec.{eqb, leb, lit≤}
 use lib.ListN.{length, take, drop, length-drop}
 use lib.Seq.{take_all}
 use Rattle.base64_text.specs.Base64.{is_base64, base64_bytes}
-use Rattle.base64_text.specs.Decoding.{answered, decoded}
-use Rattle.base64_text.proofs.Laws.{answer_is, buffer_read}
 use Rattle.number.proofs.Forms.{hex_found, hex_missed}
 use Rattle.number.specs.Reading.{hex_read}
 use Rattle.std.specs.Prelude.{Option, Some, None, Result, Ok, Err, option_map, option_and_then}
-use Rattle.std.specs.Bool.{then_some}
 use Rattle.std.specs.Result.{result_ok}
 use Rattle.octets.specs.Choice.{pick}
 use Rattle.stream.specs.Blocks.{ouisig, ouihash, size_text, extension, is_extension, is_chunk_line, carries_signature, carries_hash, chunk_size, line_signature, line_hash}
@@ -29,24 +26,13 @@ use Rattle.classes.proofs.RunLaws.{run_take, past_drop, run_le}
 use Rattle.text.proofs.SameLaws.{starts_within}
 use Rattle.classes.specs.Class.{class_of}
 use Rattle.classes.specs.declared.Class.TheVariants.{Hex}
-use Rattle.chunk.specs.Judging.{zeros}
-use Rattle.chunk.specs.Parts.{text_of, bytes_read, extension_read, text_read, line_read}
+use Rattle.chunk.specs.Parts.{text_of, extension_read, text_read, line_read}
 use Rattle.chunk.specs.declared.reading.Carried.TheVariants.{Nothing, Signature, Hash}
 use Rattle.chunk.specs.declared.reading.ChunkText.{ChunkText}
 
 -- a part of a slice up to its end
 pub rest_is : (l : List ℕ) (i : ℕ) → take (length l - i) (drop i l) ≡ drop i l
 rest_is l i = take_all (length l - i) (drop i l) (omega (arith, length-drop i l))
-
--- ---- a signature or a hash: `said` is what decoding it has answered, and left in the buffer
-
-pub bytes_read_lem : (v : List ℕ) {ok : Bool} {after : List ℕ} → answered ok after ≡ decoded 64 v zeros → then_some ok after ≡ bytes_read v
-unfolding bytes_read
-bytes_read_lem v {ok = ok} {after = after} said = by (is_base64 64 v) refl
-  where
-    by : (t : Bool) → is_base64 64 v ≡ t → then_some ok after ≡ pick (is_base64 64 v) (Some (base64_bytes 64 v)) None
-    by true e = rw (answer_is 64 v zeros said, e, buffer_read 64 v zeros said e)
-    by false e = rw (answer_is 64 v zeros said, e)
 
 -- ---- what stands after the size
 
@@ -80,7 +66,7 @@ extension_is : (n : ℕ) (e : List ℕ)
     (Some (text_of n (pick (starts_with ouisig e) (Signature (base64_bytes 64 (drop 8 e))) (pick (starts_with ouihash e) (Hash (base64_bytes 64 (drop 9 e))) Nothing))))
     None
     ≡ option_map (text_of n) (extension_read e)
-unfolding is_extension extension_read bytes_read starts_with same
+unfolding is_extension extension_read starts_with same
 extension_is n [] = refl
 extension_is n (b ∷ l) =
     rw (le-leb 1 (suc (length l)) (omega arith), ne_eqb (suc (length l)) 0 (λ e. omega arith))

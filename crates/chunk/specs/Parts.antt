@@ -1,7 +1,7 @@
 -- What the private functions' contracts name: a line's text by its parts, and the rules after the text's. No public
 -- contract names these. Assumes nothing.
 use Rattle.std.specs.Prelude.{Bool, true, false, ◌&&◌, ◌||◌, List, [], ◌∷◌, ℕ, zero, suc, ◌+◌, eqb, leb, length, drop, Option, Some, None, option_map}
-use Rattle.base64_text.specs.Base64.{is_base64, base64_bytes}
+use Rattle.base64_text.specs.Decoding.{read_as}
 use Rattle.octets.specs.Choice.{pick}
 use Rattle.stream.specs.Blocks.{ouisig, ouihash, is_chunk_line, carries_signature, carries_hash, chunk_size, line_signature, line_hash, same_bool, is_hash_due}
 use Rattle.stream.specs.Bytes.{is_hex}
@@ -27,18 +27,14 @@ carried_of l = pick (carries_signature l) (Signature (line_signature l)) (pick (
 unfoldable pub line_read : List ℕ → Option ChunkText
 line_read l = pick (is_chunk_line l) (Some (text_of (chunk_size l) (carried_of l))) None
 
--- the 88 characters after `;ouisig=`, or after `;ouihash=`
-unfoldable pub bytes_read : List ℕ → Option (List ℕ)
-bytes_read v = pick (is_base64 64 v) (Some (base64_bytes 64 v)) None
-
--- what comes after the size
+-- what comes after the size: nothing, or the name of a signature or a hash, and its 64 bytes in base64
 unfoldable pub extension_read : List ℕ → Option Carried
 extension_read e =
     pick (eqb (length e) 0)
     (Some Nothing)
     (pick (starts_with ouisig e)
-    (option_map Signature (bytes_read (drop (length ouisig) e)))
-    (pick (starts_with ouihash e) (option_map Hash (bytes_read (drop (length ouihash) e))) None))
+    (option_map Signature (read_as 64 (drop (length ouisig) e)))
+    (pick (starts_with ouihash e) (option_map Hash (read_as 64 (drop (length ouihash) e))) None))
 
 -- the text of a line without its CR LF
 unfoldable pub text_read : List ℕ → Option ChunkText

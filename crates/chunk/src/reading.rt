@@ -1,6 +1,6 @@
 // The text of a chunk line, taken apart.
 ghost use Rattle.std.specs.Prelude.{◌≡◌};
-ghost use Rattle.chunk.specs.Parts.{bytes_read, extension_read, text_read, line_read};
+ghost use Rattle.chunk.specs.Parts.{extension_read, text_read, line_read};
 
 use classes::Class;
 
@@ -18,16 +18,6 @@ pub(crate) struct ChunkText {
     pub carried: Carried,
 }
 
-// What stands after the name of a signature, or of a hash: 64 bytes in base64.
-#[tactic(auto, using(crate::proofs::ReadLaws::bytes_read_lem))]
-fn read_bytes(value: &[u8]) -> Option<[u8; 64]>
-    ensures { result ≡ bytes_read value.now }
-{
-    let mut bytes = [0u8; 64];
-    let good = base64_text::signature(value, &mut bytes);
-    good.then_some(bytes)
-}
-
 // What stands after the size: nothing, or a signature or a hash with its name in front.
 #[tactic(auto, using(crate::proofs::ReadLaws::rest_is, crate::proofs::ReadLaws::signature_room, crate::proofs::ReadLaws::hash_room), unfolding(crate::specs::Parts::extension_read))]
 fn read_extension(rest: &[u8]) -> Option<Carried>
@@ -37,10 +27,10 @@ fn read_extension(rest: &[u8]) -> Option<Carried>
         return Some(Carried::Nothing);
     }
     if text::starts_with(rest, 0, b";ouisig=") {
-        return Some(Carried::Signature(read_bytes(&rest[8..])?));
+        return Some(Carried::Signature(base64_text::bytes(&rest[8..])?));
     }
     if text::starts_with(rest, 0, b";ouihash=") {
-        return Some(Carried::Hash(read_bytes(&rest[9..])?));
+        return Some(Carried::Hash(base64_text::bytes(&rest[9..])?));
     }
     None
 }
