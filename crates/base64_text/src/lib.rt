@@ -99,6 +99,7 @@ fn read(text: &[u8], n: usize, out: &mut [u8]) -> Checked
 {
     let mut o = 0;
     let mut i = 0;
+    // Kept (DESIGN-PASS 3): text and out go on by four and by three, either may end before n does, and no proof knows what `chunks_mut` wrote.
     while o < n {
         let g = read_group(
             n - o,
