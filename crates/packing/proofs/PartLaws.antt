@@ -102,7 +102,7 @@ little_endian_is n = grind arith
 
 pub number_is : (l : List ℕ) (at : ℕ) → from_le_bytes w64 (part l at 8) ≡ number_at l at
 unfolding number number_at up_to
-number_is l at = rw add-zero (omega arith)
+number_is l at = simp add-zero (omega arith)
 
 -- a loop that writes numbers: a turn, and its end
 pub numbers_turn : (ns l m : List ℕ) (at i : ℕ) → i < length ns → m ≡ sets l (at + 8 * i) (little_endian 8 (get_or ns i 0)) → sets l (at + 8 * i) (all_bytes (drop i ns)) ≡ sets m (at + 8 * (i + 1)) (all_bytes (drop (i + 1) ns))

@@ -9,6 +9,7 @@ use ring::{KeyRecord, KeyRing};
 const RECORD_SIZE: usize = 48;
 
 // How many records so many bytes have. No whole number of them is one more than a ring may have, so that it is refused.
+#[tactic(auto, unfolding(crate::specs::Keys::count_of))]
 fn count_of(n: usize) -> usize
     ensures { result ≡ count_of n }
 {
@@ -18,6 +19,7 @@ fn count_of(n: usize) -> usize
     RING_LIMIT + 1
 }
 
+#[tactic(auto, unfolding(crate::specs::Keys::record_at))]
 fn record_at(ring: &[u8], i: usize) -> KeyRecord
     requires { i < 16 }
     ensures { result ≡ record_at ring.now i }

@@ -15,6 +15,7 @@ pub fn bytes<const N: usize>(from: &[u8], at: usize) -> [u8; N]
 }
 
 // The number that eight bytes write, from the place `at` on.
+#[tactic(auto, using(crate::proofs::PartLaws::number_is))]
 pub fn number_at(from: &[u8], at: usize) -> u64
     ensures { result ≡ number_at from.now at }
 {
@@ -36,6 +37,7 @@ pub fn put_array<const N: usize>(to: &mut [u8], at: usize, bytes: [u8; N])
 }
 
 // Writes a number over eight bytes, from the place `at` on.
+#[tactic(auto, using(crate::proofs::PartLaws::little_endian_is))]
 pub fn put_number(to: &mut [u8], at: usize, n: u64)
     ensures { to.new ≡ sets to.old at (little_endian 8 n) }
 {
