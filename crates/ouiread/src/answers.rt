@@ -21,9 +21,8 @@ impl<'a> Answers<'a> {
     pub fn open(rt: &HostRuntime, name: &'a [u8]) -> Result<Answers<'a>, Fault<'a>> {
         let mut file = files::open(rt, name)?;
         let is_file = file.rewind().is_ok();
-        let file = BufReader::with_capacity(rt.alloc(), AHEAD, file).map_err(|why| Fault::Unopened(
-            name, why,
-        ))?;
+        let ahead = BufReader::with_capacity(rt.alloc(), AHEAD, file);
+        let file = ahead.map_err(|why| Fault::Unopened(name, why))?;
         let mut answers = Answers {
             name,
             file,

@@ -10,7 +10,8 @@ use reader::Outcome;
 use ring::KeyRecord;
 use state::Reader;
 
-// A feed with the first `count` of the records as a lent table: a count is never over the room. It is lent here alone: all above has the ring by value.
+// A feed with the first `count` of the records as a lent table: a count is never over the room. It is lent here alone: all above has the ring by
+// value.
 // Kept (DESIGN-PASS 6): the ring as the reader takes it; the claims name this contract.
 pub fn feed(
     r: Reader,

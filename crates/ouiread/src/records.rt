@@ -23,17 +23,12 @@ fn second(text: &[u8]) -> Option<u64> {
     tens.checked_mul(10)?.checked_add(digit)
 }
 
-fn key(text: &[u8]) -> Option<[u8; 32]> {
-    let mut key = [0; 32];
-    base64_text::key(text, &mut key).then_some(key)
-}
-
 fn record(line: &[u8]) -> Option<KeyRecord> {
-    let (key_text, rest) = line.split_at_checked(KEY_LENGTH)?;
+    let (key, rest) = line.split_at_checked(KEY_LENGTH)?;
     let seconds = rest.strip_prefix(b" ")?;
     let space = seconds.iter().position(|b| *b == b' ')?;
     Some(KeyRecord {
-        key: key(key_text)?,
+        key: base64_text::bytes(key)?,
         first: second(&seconds[..space])?,
         last: second(&seconds[space + 1..])?,
     })
