@@ -34,18 +34,18 @@ pub read_all : (ls : List (List ℕ)) → answer (are_field_lines ls && leb (len
 unfolding read_on
 read_all ls = rw (zero-add (length ls))
 
-pub read_end : (fs : List Field) → length fs ≤ field_limit → read_on fs [] ≡ answer true fs
-unfolding read_on are_field_lines fields_of
+pub read_end : (fs : List Field) → length fs ≤ field_limit → read_on fs [] ≡ Some fs
+unfolding read_on are_field_lines fields_of answer
 read_end fs h = rw (add-zero (length fs), le-leb (length fs) field_limit h, append-nil fs)
 
 module _ (fs : List Field) (l : List ℕ) (ls : List (List ℕ)) where
-  read_bad : (x : List Field) → is_field_line l ≡ false → read_on fs (l ∷ ls) ≡ answer false x
+  read_bad : is_field_line l ≡ false → read_on fs (l ∷ ls) ≡ None
   unfolding read_on are_field_lines answer
-  read_bad x e = rw e
+  read_bad e = rw e
 
-  read_over : (x : List Field) → field_limit ≤ length fs → read_on fs (l ∷ ls) ≡ answer false x
+  read_over : field_limit ≤ length fs → read_on fs (l ∷ ls) ≡ None
   unfolding read_on answer
-  read_over x h = rw (lt-leb (length fs + suc (length ls)) field_limit (omega arith), both_false (are_field_lines (l ∷ ls)))
+  read_over h = rw (lt-leb (length fs + suc (length ls)) field_limit (omega arith), both_false (are_field_lines (l ∷ ls)))
 
   read_next : is_field_line l ≡ true → read_on fs (l ∷ ls) ≡ read_on (fs ++ (field_of l ∷ [])) ls
   unfolding read_on are_field_lines fields_of
@@ -70,21 +70,21 @@ module _ (text : List ℕ) (from : ℕ) where
   filled_none e h l t n = (t, record { room = omega arith; whole = length-replicate field_limit e; within = empty_within (length text) field_limit e h; makes = rw (t, n) })
 
   module _ (f : Fields) (l m : Lines) (x : Filled text all f (lines_in l)) where
-    pub filled_all : GivesLine l None m → ReadsFields text all (record { good = true; fields = f })
+    pub filled_all : GivesLine l None m → ReadsFields text all (Some f)
     filled_all g =
         let n : length (fields_in text f) ≤ field_limit = omega (arith, fields_length text f x.room x.whole, x.room) in
         record { meaning = sym (read_all all ∙ x.makes ∙ rw (no_line_given l m g) (read_end (fields_in text f) n)); within = x.within }
 
     -- a turn: a line, and those after it
     module _ (start : ℕ) (line : Bor (List ℕ)) (g : GivesLine l (Some (start, line)) m) where
-      pub filled_bad : ReadsField line.now line.now None → ReadsFields text all (record { good = false; fields = f })
+      pub filled_bad : ReadsField line.now line.now None → ReadsFields text all None
       filled_bad y =
-          record { meaning = sym (read_all all ∙ x.makes ∙ rw (line_given l m (start, line) g) (read_bad (fields_in text f) line.now (lines_in m) (fields_in text f) (line_tells None y))); within = x.within }
+          record { meaning = sym (read_all all ∙ x.makes ∙ rw (line_given l m (start, line) g) (read_bad (fields_in text f) line.now (lines_in m) (line_tells None y))); within = tt }
 
-      pub filled_over : f.count ≡ field_limit → ReadsFields text all (record { good = false; fields = f })
+      pub filled_over : f.count ≡ field_limit → ReadsFields text all None
       filled_over h =
           let n : field_limit ≤ length (fields_in text f) = omega (arith, fields_length text f x.room x.whole) in
-          record { meaning = sym (read_all all ∙ x.makes ∙ rw (line_given l m (start, line) g) (read_over (fields_in text f) line.now (lines_in m) (fields_in text f) n)); within = x.within }
+          record { meaning = sym (read_all all ∙ x.makes ∙ rw (line_given l m (start, line) g) (read_over (fields_in text f) line.now (lines_in m) n)); within = tt }
 
       module _ (e : Entry) (y : ReadsField line.now line.now (Some e)) (t : l.text.now ≡ text) where
         pub filled_on : (f.count ≡ field_limit → ⊥) → (m.text.now ≡ text) × Filled text all (record { count = f.count + 1; entries = set f.entries f.count (moved start e) }) (lines_in m)

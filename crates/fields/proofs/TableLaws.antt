@@ -1,5 +1,5 @@
 -- Fields looked up by their names, among the entries that stand for them. Assumes nothing.
-use mathlib.Core.Path.{◌≡◌, refl, ap}
+use mathlib.Core.Path.{◌≡◌, refl, sym, ap, ◌∙◌}
 use mathlib.Core.Bool.{Bool, true, false, ◌&&◌, ◌||◌}
 use mathlib.Core.List.{List, [], ◌∷◌, map}
 use Prim.Native.Nat.{ℕ}
@@ -10,6 +10,9 @@ use Rattle.std.specs.Borrow.{Bor}
 use Rattle.std.specs.Option.{option_map}
 use Rattle.stream.specs.Bytes.{same_name}
 use Rattle.stream.specs.Fields.{among, count_of, has_field, is_protected, is_protected_doubled, names_of, value_of, values_of}
+use Rattle.places.specs.declared.Span.{Span}
+use Rattle.places.specs.Place.{Clips, part_of}
+use Rattle.fields.specs.Answers.{Finds}
 use Rattle.field_lines.specs.Entries.{entry_name, entry_value, entry_field}
 use Rattle.field_lines.specs.declared.entry.Entry.{Entry}
 
@@ -76,9 +79,24 @@ module _ (text name : List ℕ) where
       go false t k = rw t (found_on e es t (find is_named es) k)
 
   -- what a search among them gave
-  pub found_is : (es : List Entry) (r : Option (Bor Entry)) → option_map (λ x. x.now) r ≡ find is_named es → MatchOption r (Missed es) (λ x. Found es x.now)
+  found_is : (es : List Entry) (r : Option (Bor Entry)) → option_map (λ x. x.now) r ≡ find is_named es → MatchOption r (Missed es) (λ x. Found es x.now)
   found_is es None e = rw (← e) at (find_named es)
   found_is es (Some x) e = rw (← e) at (find_named es)
+
+  -- and the places of its value
+  module _ (es : List Entry) where
+    abbrev FindsFirst : Option Span → Type 0
+    FindsFirst v = Finds text (has_field name (map (entry_field text) es)) (value_of name (map (entry_field text) es)) v
+
+    pub finds_none : (r : Option (Bor Entry)) → option_map (λ x. x.now) r ≡ find is_named es → r ≡ None → FindsFirst None
+    finds_none r e h = let m = rw h at (found_is es r e) in record { found = sym m.0; content = sym m.1; ordered = tt; within = tt }
+
+    pub finds_first : (r : Option (Bor Entry)) → option_map (λ x. x.now) r ≡ find is_named es → (x : Bor Entry) → r ≡ Some x → (s : Span) → Clips text x.now.value.start x.now.value.end s → FindsFirst (Some s)
+    finds_first r e x h s i = let m = rw h at (found_is es r e) in record { found = sym m.0; content = i.content ∙ sym m.1; ordered = i.ordered; within = i.within }
+
+pub value_found : {text : List ℕ} {there : Bool} {bytes : List ℕ} (r : Option Span) (v : List ℕ) → Finds text there bytes r → MatchOption r (v ≡ []) (λ s. v ≡ part_of text s.start s.end) → v ≡ bytes
+value_found None v x h = h ∙ x.content
+value_found (Some s) v x h = h ∙ x.content
 
 -- ---- pairs of one protected name
 

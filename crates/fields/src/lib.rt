@@ -8,5 +8,5 @@ mod table; // the table of a head's fields
 
 pub use doubled::is_doubled;
 pub use lookup::{count_of, find, has, is_named, value_of};
-pub use reading::{FieldsRead, read_fields};
-pub use table::{Fields, Value, count, none};
+pub use reading::read_fields;
+pub use table::{Fields, count, none};

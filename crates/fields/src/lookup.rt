@@ -6,8 +6,9 @@ ghost use Rattle.field_lines.specs.Entries.{entry_field, entry_name};
 ghost use Rattle.fields.specs.Answers.{FindsValue};
 ghost use Rattle.fields.specs.Table.{fields_in};
 
-use crate::table::{Fields, Value};
+use crate::table::Fields;
 use field_lines::Entry;
+use places::Span;
 
 // Whether the entry is that of a field of that name.
 pub fn is_named(text: &[u8], e: Entry, name: &[u8]) -> bool
@@ -23,25 +24,12 @@ pub(crate) fn is_among(text: &[u8], name: &[u8], entries: &[Entry]) -> bool
     entries.iter().any(|e| is_named(text, *e, name))
 }
 
-// Where the value of the first field of that name lies.
-pub fn find(text: &[u8], f: Fields, name: &[u8]) -> Value
+// Where the value of the first field of that name lies, if there is one.
+pub fn find(text: &[u8], f: Fields, name: &[u8]) -> Option<Span>
     ensures { FindsValue text.now f name.now result }
 {
-    match f.used().iter().find(|e| is_named(text, **e, name)) {
-        Some(e) => {
-            let value = places::clip(text, e.value.start, e.value.end);
-            Value {
-                found: true,
-                start: value.start,
-                end: value.end,
-            }
-        }
-        None => Value {
-            found: false,
-            start: 0,
-            end: 0,
-        },
-    }
+    let e = f.used().iter().find(|e| is_named(text, **e, name))?;
+    Some(places::clip(text, e.value.start, e.value.end))
 }
 
 pub fn has(text: &[u8], f: Fields, name: &[u8]) -> bool
@@ -54,8 +42,7 @@ pub fn has(text: &[u8], f: Fields, name: &[u8]) -> bool
 pub fn value_of<'a>(text: &'a [u8], f: Fields, name: &[u8]) -> &'a [u8]
     ensures { result.now ≡ value_of name.now (fields_in text.now f) }
 {
-    let v = find(text, f, name);
-    places::part(text, v.start, v.end)
+    find(text, f, name).map_or(&[], |value| places::part(text, value.start, value.end))
 }
 
 // How many fields of that name there are.

@@ -8,13 +8,6 @@ use field_lines::Entry;
 use limits::FIELD_LIMIT;
 use places::Span;
 
-// Whether all lines are field lines, and no more than a head may have; and their table.
-#[derive(Clone, Copy)]
-pub struct FieldsRead {
-    pub good: bool,
-    pub fields: Fields,
-}
-
 // A part of a line that begins at `start`, by its places in the whole text.
 fn moved(part: Span, start: usize) -> Span
     requires { (part.start ≤ part.end) × (start + part.end < 2 ^ 64) }
@@ -26,8 +19,8 @@ fn moved(part: Span, start: usize) -> Span
     }
 }
 
-// The fields of the lines from `from` on, up to an empty line or the end of the text.
-pub fn read_fields(text: &[u8], from: usize) -> FieldsRead
+// The table of the lines from `from` on, up to an empty line or the end of the text, if they are field lines, and no more than a head may have.
+pub fn read_fields(text: &[u8], from: usize) -> Option<Fields>
     ensures { ReadsFields text.now (text_lines (drop from text.now)) result }
 {
     let mut fields = Fields {
@@ -35,17 +28,9 @@ pub fn read_fields(text: &[u8], from: usize) -> FieldsRead
         entries: [Entry::none(); FIELD_LIMIT],
     };
     for (start, line) in field_lines::lines_from(text, from) {
-        let Some(e) = field_lines::field_line(line) else {
-            return FieldsRead {
-                good: false,
-                fields,
-            };
-        };
+        let e = field_lines::field_line(line)?;
         if fields.count == FIELD_LIMIT {
-            return FieldsRead {
-                good: false,
-                fields,
-            };
+            return None;
         }
         fields.entries[fields.count] = Entry {
             name: moved(e.name, start),
@@ -53,5 +38,5 @@ pub fn read_fields(text: &[u8], from: usize) -> FieldsRead
         };
         fields.count += 1;
     }
-    FieldsRead { good: true, fields }
+    Some(fields)
 }

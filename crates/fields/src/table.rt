@@ -23,14 +23,6 @@ impl Fields {
     }
 }
 
-// What was looked for: where its bytes lie in the text, and nowhere if it was not found.
-#[derive(Clone, Copy)]
-pub struct Value {
-    pub found: bool,
-    pub start: usize,
-    pub end: usize,
-}
-
 // How many fields there are.
 pub fn count(f: Fields) -> usize
     ensures { result ≡ min f.count field_limit }
