@@ -1,22 +1,24 @@
 -- A text split at its spaces, name by name. Assumes nothing.
 use mathlib.Core.Bool.{Bool, true, false}
 use mathlib.Core.List.{List, [], ◌∷◌, ◌++◌}
-use mathlib.Core.Path.{◌≡◌, refl, ap, ◌∙◌}
+use mathlib.Core.Path.{Path, ◌≡◌, refl, ap, ◌∙◌}
 use Prim.Native.Nat.{ℕ, zero, suc, ◌+◌, ◌≤◌, ◌<◌, min}
 use native.Mathlib.Nat.{suc-add, add-sub_cancel_left}
 use native.Mathlib.Omega.{arith}
 use borrow.Author.Tests.{le-leb, lt-leb}
 use lib.Dec.{eqb}
-use lib.ListN.{length, get_or, set, take, drop, replicate, length-append, length-drop}
+use lib.ListN.{length, get_or, set, take, drop, replicate, length-append, length-drop, length-take}
 use lib.Seq.{drop-drop, append_snoc}
+use Rattle.std.specs.Prelude.{Option, None, Some}
+use Rattle.std.specs.List.{prefix_len}
 use Rattle.stream.specs.Lines.{in_front}
 use Rattle.stream.specs.Signatures.{split_names}
 use Rattle.stream.specs.Template.{run}
 use Rattle.places.specs.declared.Span.{Span}
 use Rattle.classes.proofs.RunLaws.{run_cons, run_le}
-use Rattle.names.specs.NameList.{is_name_byte, no_span, names_from, names_in, name_list, name_list_of, SpansWithin}
+use Rattle.names.specs.NameList.{is_name_byte, no_span, names_in, name_list_of, SpansWithin}
 use Rattle.places.specs.Place.{part_of}
-use Rattle.names.proofs.SpanLaws.{names_length, names_more, within_set}
+use Rattle.names.proofs.SpanLaws.{first_names, names_length, names_more, within_set}
 
 -- ---- the first name of a text: n bytes, and what comes after the space
 
@@ -80,11 +82,11 @@ module _ (l : List ℕ) (spans : List Span) (count start end : ℕ) (f : end ≡
   pub turn_within : start ≤ length l → SpansWithin l spans → SpansWithin l spans'
   turn_within h w = within_set l spans _ count room w (omega arith) (name_within l start end f h)
 
-  module _ (e : split_names l ≡ names_from l spans 0 count ++ split_names (drop start l)) where
-    pub turn_last : length l ≤ end → split_names l ≡ names_from l spans' 0 (count + 1)
+  module _ (e : split_names l ≡ first_names l spans count ++ split_names (drop start l)) where
+    pub turn_last : length l ≤ end → split_names l ≡ first_names l spans' (count + 1)
     turn_last h = e ∙ rw (name_last l start end f h, names_more l spans (record { start = start; end = end }) count room)
 
-    pub turn_more : end < length l → split_names l ≡ names_from l spans' 0 (count + 1) ++ split_names (drop (end + 1) l)
+    pub turn_more : end < length l → split_names l ≡ first_names l spans' (count + 1) ++ split_names (drop (end + 1) l)
     turn_more h = e ∙ rw (name_more l start end f h, names_more l spans (record { start = start; end = end }) count room, append_snoc)
 
 -- ---- the answers
@@ -102,21 +104,21 @@ some_name (b ∷ l) = go (eqb b 32) refl
     go true e = rw (split_space b l e) (omega arith)
     go false e = rw (split_byte b l e) (front (split_names l))
 
-module _ (l : List ℕ) (spans : List Span) (count : ℕ) where
+module _ (l : List ℕ) (spans : List Span) (count : ℕ) (w : length spans ≡ 32) (c : count ≤ 32) where
   -- all names are read
-  pub list_good : split_names l ≡ names_from l spans 0 count → count ≤ 32 → name_list true (names_in l (record { count = count; spans = spans })) ≡ name_list_of l
+  pub list_good : split_names l ≡ first_names l spans count → Path (Option (List (List ℕ))) (Some (names_in l (record { count = count; spans = spans }))) (name_list_of l)
   unfolding names_in name_list_of
-  list_good e h =
+  list_good e =
       let m : min count 32 ≡ count = omega arith in
-      let k : length (split_names l) ≤ 32 = omega (arith, ap length e, names_length l spans 0 count) in
+      let k : length (split_names l) ≤ 32 = omega (arith, ap length e, names_length l spans count (omega arith)) in
       rw (m, le-leb (length (split_names l)) 32 k, e)
 
   -- there are 32, and more after them
-  pub list_long : (rest : List ℕ) → split_names l ≡ names_from l spans 0 count ++ split_names rest → 32 ≤ count → name_list false [] ≡ name_list_of l
+  pub list_long : (rest : List ℕ) → split_names l ≡ first_names l spans count ++ split_names rest → 32 ≤ count → Path (Option (List (List ℕ))) None (name_list_of l)
   unfolding name_list_of
   list_long rest e h =
       let k : 32 < length (split_names l) =
-      omega (arith, ap length e, length-append (names_from l spans 0 count) (split_names rest), names_length l spans 0 count, some_name rest) in
+      omega (arith, ap length e, length-append (first_names l spans count) (split_names rest), names_length l spans count (omega arith), some_name rest) in
       rw (lt-leb (length (split_names l)) 32 k)
 
 -- the spans at the start, none of which is used
@@ -127,3 +129,17 @@ none_at (suc n) (suc i) = none_at n i
 
 pub none_within : (l : List ℕ) (n : ℕ) → SpansWithin l (replicate n no_span)
 none_within l n = record { ordered = λ i. rw (none_at n i) (omega arith); ends = λ i. rw (none_at n i) (omega arith) }
+
+-- ---- how far a name goes
+
+name_prefix : (l : List ℕ) → prefix_len is_name_byte l ≡ length (run is_name_byte l)
+unfolding run
+name_prefix [] = refl
+name_prefix (b ∷ l) = go (is_name_byte b) refl (name_prefix l)
+  where
+    go : (t : Bool) → is_name_byte b ≡ t → prefix_len is_name_byte l ≡ length (run is_name_byte l) → prefix_len is_name_byte (b ∷ l) ≡ length (run is_name_byte (b ∷ l))
+    go true e h = rw (e, run) (omega (arith, h))
+    go false e h = rw (e, run)
+
+pub name_taken : (l : List ℕ) → length (take (prefix_len is_name_byte l) l) ≡ length (run is_name_byte l)
+name_taken l = omega (arith, length-take (prefix_len is_name_byte l) l, name_prefix l, run_le is_name_byte l)

@@ -1,83 +1,67 @@
 -- The names of some spans. Assumes nothing.
-use mathlib.Core.Bool.{Bool, true, false, ◌||◌}
-use mathlib.Core.List.{List, [], ◌∷◌, ◌++◌}
-use mathlib.Core.Path.{◌≡◌, refl, ap, ◌∙◌}
-use Prim.Native.Nat.{ℕ, zero, suc, ◌+◌, ◌-◌, ◌≤◌, ◌<◌, min}
-use native.Mathlib.Nat.{sub-zero}
+use mathlib.Core.Bool.{Bool, true, false, ◌&&◌, ◌||◌}
+use mathlib.Core.List.{List, [], ◌∷◌, ◌++◌, map}
+use mathlib.Core.Path.{◌≡◌, refl, ap}
+use Prim.Native.Nat.{ℕ, zero, suc, ◌+◌, ◌≤◌, ◌<◌}
 use native.Mathlib.Omega.{arith}
 use borrow.Author.Tests.{eqb-true, eqb-false}
 use lib.Dec.{eqb}
-use lib.ListN.{length, get_or, set}
+use lib.ListN.{length, get_or, set, take, drop, length-map, length-take}
 use lib.Seq.{get_or-set_same, get_or-set_other}
+use Rattle.std.proofs.lemmas.List.{take_more_set, map-append}
+use Rattle.std.specs.List.{list_all, list_any}
 use Rattle.stream.specs.Bytes.{same_name}
-use Rattle.stream.specs.Fields.{among, is_doubled}
+use Rattle.stream.specs.Fields.{among, has_field, is_doubled}
+use Rattle.stream.specs.Lines.{Field}
+use Rattle.stream.specs.Signatures.{are_fields}
 use Rattle.places.specs.declared.Span.{Span}
-use Rattle.names.specs.NameList.{span_bytes, no_span, names_from, names_in, SpansWithin}
-use Rattle.names.specs.declared.reading.Names.{Names}
+use Rattle.names.specs.NameList.{span_bytes, no_span, SpansWithin}
 
--- ---- names from span i on, of n
+-- ---- searches over the names of spans
 
-pub all_from : (l : List ℕ) (n : Names) (count : ℕ) → count ≡ min n.count 32 → names_in l n ≡ names_from l n.spans 0 (count - 0)
-unfolding names_in
-all_from l n count e = rw (e, sub-zero)
+module _ (l : List ℕ) where
+  abbrev pub names_of : List Span → List (List ℕ)
+  names_of spans = map (span_bytes l) spans
 
-module _ (l : List ℕ) (spans : List Span) (n i : ℕ) where
-  abbrev from : ℕ → List (List ℕ)
-  from k = names_from l spans k (n - k)
+  pub any_name : (name : List ℕ) (spans : List Span) → list_any (λ (s : Span). same_name name (span_bytes l s)) spans ≡ among name (names_of spans)
+  unfolding among
+  any_name name [] = refl
+  any_name name (s ∷ spans) = ap (λ (t : Bool). same_name name (span_bytes l s) || t) (any_name name spans)
 
-  pub from_on : i < n → from i ≡ span_bytes l (get_or spans i no_span) ∷ from (i + 1)
-  unfolding names_from
-  from_on h = let e : n - i ≡ suc (n - (i + 1)) = omega arith in rw e
+  pub all_names : (fs : List Field) (spans : List Span) → list_all (λ (s : Span). has_field (span_bytes l s) fs) spans ≡ are_fields fs (names_of spans)
+  unfolding are_fields
+  all_names fs [] = refl
+  all_names fs (s ∷ spans) = ap (λ (t : Bool). has_field (span_bytes l s) fs && t) (all_names fs spans)
 
-  pub from_out : n ≤ i → from i ≡ []
-  unfolding names_from
-  from_out h = let e : n - i ≡ 0 = omega arith in rw e
+  pub names_dropped : (k : ℕ) (spans : List Span) → names_of (drop k spans) ≡ drop k (names_of spans)
+  names_dropped zero spans = refl
+  names_dropped (suc k) [] = refl
+  names_dropped (suc k) (s ∷ spans) = names_dropped k spans
 
-  pub rows_on : i < n → is_doubled (from i) ≡ among (span_bytes l (get_or spans i no_span)) (from (i + 1)) || is_doubled (from (i + 1))
+  pub name_of : (spans : List Span) (i : ℕ) (s : Span) → i < length spans → s ≡ get_or spans i s → get_or (names_of spans) i [] ≡ span_bytes l s
+  name_of [] i s h e = absurd (omega arith)
+  name_of (t ∷ spans) zero s h e = rw e
+  name_of (t ∷ spans) (suc i) s h e = name_of spans i s (omega arith) e
+
+  pub none_doubled : is_doubled (names_of []) ≡ false
   unfolding is_doubled
-  rows_on h = rw (from_on h)
+  none_doubled = refl
 
-  pub rows_out : n ≤ i → is_doubled (from i) ≡ false
+  pub doubled_on : (s : Span) (spans : List Span) (t : Bool) → t ≡ among (span_bytes l s) (names_of spans) → is_doubled (names_of (s ∷ spans)) ≡ t || is_doubled (names_of spans)
   unfolding is_doubled
-  rows_out h = rw (from_out h)
-
-  module _ (name : List ℕ) where
-    among_on : i < n → among name (from i) ≡ same_name name (span_bytes l (get_or spans i no_span)) || among name (from (i + 1))
-    unfolding among
-    among_on h = rw (from_on h)
-
-    pub among_hit : i < n → same_name name (span_bytes l (get_or spans i no_span)) ≡ true → among name (from i) ≡ true
-    among_hit h t = among_on h ∙ rw t
-
-    pub among_next : i < n → same_name name (span_bytes l (get_or spans i no_span)) ≡ false → among name (from i) ≡ among name (from (i + 1))
-    among_next h t = among_on h ∙ rw t
-
-    pub among_out : n ≤ i → among name (from i) ≡ false
-    unfolding among
-    among_out h = rw (from_out h)
+  doubled_on s spans t h = rw h
 
 -- ---- one span more
 
-pub names_length : (l : List ℕ) (spans : List Span) (i k : ℕ) → length (names_from l spans i k) ≡ k
-unfolding names_from
-names_length l spans i zero = refl
-names_length l spans i (suc k) = ap suc (names_length l spans (i + 1) k)
+abbrev pub first_names : List ℕ → List Span → ℕ → List (List ℕ)
+first_names l spans k = names_of l (take k spans)
 
-names_set : (l : List ℕ) (spans : List Span) (x : Span) (at i k : ℕ) → at ≡ i + k → at < length spans
-    → names_from l (set spans at x) i (suc k) ≡ names_from l spans i k ++ (span_bytes l x ∷ [])
-unfolding names_from
-names_set l spans x at i zero e h =
-    let f : i ≡ at = omega arith in
-    rw (f, get_or-set_same spans at x no_span h)
-names_set l spans x at i (suc k) e h =
-    let f : i ≡ at → ⊥ = λ g. omega arith in
-    rw (get_or-set_other spans at i x no_span f, ← names_set l spans x at (i + 1) k (omega arith) h)
+pub names_length : (l : List ℕ) (spans : List Span) (k : ℕ) → k ≤ length spans → length (first_names l spans k) ≡ k
+names_length l spans k h = omega (arith, length-map (take k spans) (span_bytes l), length-take k spans)
 
 module _ (l : List ℕ) (spans : List Span) (x : Span) (at : ℕ) (h : at < length spans) where
-  pub names_more : names_from l (set spans at x) 0 (at + 1) ≡ names_from l spans 0 at ++ (span_bytes l x ∷ [])
-  names_more =
-      let e : at + 1 ≡ suc at = omega arith in
-      rw e (names_set l spans x at 0 at (omega arith) h)
+  pub names_more : first_names l (set spans at x) (at + 1) ≡ first_names l spans at ++ (span_bytes l x ∷ [])
+  names_more = rw (take_more_set spans at x h, map-append)
 
   -- span i after the write, by whether it was written
   by_place : (P : Span → Type 0) → P x → ((i : ℕ) → P (get_or spans i no_span)) → (i : ℕ) → P (get_or (set spans at x) i no_span)

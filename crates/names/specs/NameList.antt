@@ -1,12 +1,12 @@
 -- The list of signed names (paper 01, "The head"): "names with one space between", at most 32. Assumes nothing.
-use Rattle.std.specs.Prelude.{Bool, true, false, List, [], ◌∷◌, ◌≡◌, ℕ, zero, suc, ◌+◌, ◌≤◌, min, eqb, leb, length, get_or}
+use Rattle.std.specs.Prelude.{Bool, true, false, Option, None, Some, IfSome, List, map, ◌≡◌, ℕ, ◌≤◌, min, eqb, leb, length, take, get_or}
+use Rattle.std.specs.Option.{option_map}
 use Rattle.octets.specs.Choice.{pick}
 use Rattle.stream.specs.Limits.{name_limit}
 use Rattle.stream.specs.Signatures.{split_names}
 use Rattle.places.specs.declared.Span.{Span}
 use Rattle.places.specs.Place.{part_of}
 use Rattle.names.specs.declared.reading.Names.{Names}
-use Rattle.names.specs.declared.reading.NamesRead.{NamesRead}
 
 -- a name goes up to the next space
 abbrev pub is_name_byte : ℕ → Bool
@@ -21,33 +21,24 @@ span_bytes l s = part_of l s.start s.end
 abbrev pub no_span : Span
 no_span = record { start = 0; end = 0 }
 
--- the names of k spans, from span i on
-unfoldable pub names_from : List ℕ → List Span → ℕ → ℕ → List (List ℕ)
-names_from l spans i zero = []
-names_from l spans i (suc k) = span_bytes l (get_or spans i no_span) ∷ names_from l spans (i + 1) k
+-- the first `count` spans are names, or all 32 if there are fewer
+abbrev pub used_spans : Names → List Span
+used_spans n = take (min n.count name_limit) n.spans
 
--- the names of the first `count` spans, or of all 32
 unfoldable pub names_in : List ℕ → Names → List (List ℕ)
-names_in l n = names_from l n.spans 0 (min n.count name_limit)
+names_in l n = map (span_bytes l) (used_spans n)
 
 -- ---- a text read as a list of names
 
-pub record NameList : Type 0 where
-  pub good : Bool
-  pub names : List (List ℕ)
-
-abbrev pub name_list : Bool → List (List ℕ) → NameList
-name_list good names = record { good = good; names = names }
-
 -- the names of a list that is not too long, none of any other
-unfoldable pub name_list_of : List ℕ → NameList
-name_list_of l = pick (leb (length (split_names l)) name_limit) (name_list true (split_names l)) (name_list false [])
+unfoldable pub name_list_of : List ℕ → Option (List (List ℕ))
+name_list_of l = pick (leb (length (split_names l)) name_limit) (Some (split_names l)) None
 
 -- each span's places are those of a part of the text
 pub record SpansWithin (l : List ℕ) (spans : List Span) : Type 0 where
   pub ordered : (i : ℕ) → (get_or spans i no_span).start ≤ (get_or spans i no_span).end
   pub ends : (i : ℕ) → (get_or spans i no_span).end ≤ length l
 
-pub record ReadsNames (l : List ℕ) (r : NamesRead) : Type 0 where
-  pub meaning : name_list r.good (names_in l r.names) ≡ name_list_of l
-  pub within : SpansWithin l r.names.spans
+pub record ReadsNames (l : List ℕ) (r : Option Names) : Type 0 where
+  pub meaning : option_map (names_in l) r ≡ name_list_of l
+  pub within : IfSome r (λ n. SpansWithin l n.spans)

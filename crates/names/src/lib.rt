@@ -7,6 +7,6 @@ mod reading; // a text split into names
 mod rules; // the rules of the list
 
 pub use doubled::is_doubled;
-pub use list::{among, count, name};
-pub use reading::{Names, NamesRead, read_names};
+pub use list::{among, count, name, name_at};
+pub use reading::{Names, read_names};
 pub use rules::is_list;

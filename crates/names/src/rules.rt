@@ -12,15 +12,10 @@ use fields::Fields;
 fn are_fields(text: &[u8], f: Fields, list: &[u8], n: Names) -> bool
     ensures { result ≡ are_fields (fields_in text.now f) (listed_fields (names_in list.now n)) }
 {
-    let end = list::count(n);
-    let mut i = 2;
-    while i < end {
-        if !fields::has(text, f, list::name(list, n, i)) {
-            return false;
-        }
-        i += 1;
-    }
-    true
+    n.used()
+        .iter()
+        .skip(2)
+        .all(|span| fields::has(text, f, list::name_at(list, *span)))
 }
 
 pub fn is_list(text: &[u8], f: Fields, list: &[u8], n: Names) -> bool

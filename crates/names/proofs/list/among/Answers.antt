@@ -1,26 +1,23 @@
--- The search among the names from i on says what the search among all says. Assumes nothing.
-use mathlib.Core.Path.{◌≡◌, refl, sym, ap, ◌∙◌}
-use native.Mathlib.Omega.{arith}
-use lib.ListN.{length}
-use Rattle.names.specs.NameList.{names_in}
+-- Each name from there on is compared. Assumes nothing.
+use borrow.Author.Rules.{rules}
+use borrow.Author.Tests.{tests}
+use mathlib.Core.Path.{ap, ◌∙◌}
+use Rattle.std.proofs.lemmas.Iterator.{YieldsList-from_slice}
+use Rattle.std.proofs.lemmas.Iterator.Adapters.{YieldsList-from_skip}
+use Rattle.std.proofs.lemmas.Iterator.Consumers.{YieldsList-at}
+use Rattle.std.proofs.lemmas.Iterator.Search.{any_from_yields_List}
 use Rattle.stream.specs.Bytes.{same_name}
-use Rattle.names.proofs.NameLaws.{names_count, among_hit, among_next, among_out}
+use Rattle.stream.specs.Fields.{among}
+use Rattle.places.specs.declared.Span.{Span}
+use Rattle.names.specs.NameList.{names_in, span_bytes, used_spans}
+use Rattle.names.proofs.SpanLaws.{any_name, names_dropped}
 use Rattle.names.proofs.list.among.Goals as goal
 
-pub loop-i-init : goal.loop-i-init
-loop-i-init c = refl
-
-pub returns-then-same_name : goal.returns-then-same_name
-returns-then-same_name c =
-    let ends : c.count-end.result ≡ length ((names_in c.args.list.now c.args.n)) = c.count-end.ensures ∙ sym (names_count _ _) in
-    sym (c.loop-i.invariant ∙ among_hit ((names_in c.args.list.now c.args.n)) c.loop-i.i _ (omega (arith, ends, c.loop-i-test.true)) (sym (c.same_name.ensures ∙ ap (same_name _) c.name.ensures) ∙ c.if-same_name.true))
-
-pub loop-i-preserved : goal.loop-i-preserved
-loop-i-preserved c =
-    let ends : c.count-end.result ≡ length ((names_in c.args.list.now c.args.n)) = c.count-end.ensures ∙ sym (names_count _ _) in
-    c.loop-i.invariant ∙ among_next ((names_in c.args.list.now c.args.n)) c.loop-i.i _ (omega (arith, ends, c.loop-i-test.true)) (sym (c.same_name.ensures ∙ ap (same_name _) c.name.ensures) ∙ c.if-same_name.false)
-
 pub returns : goal.returns
+unfolding names_in
 returns c =
-    let ends : c.count-end.result ≡ length ((names_in c.args.list.now c.args.n)) = c.count-end.ensures ∙ sym (names_count _ _) in
-    sym (c.loop-i.invariant ∙ among_out ((names_in c.args.list.now c.args.n)) c.loop-i.i _ (omega (arith, ends, c.loop-i-test.false)))
+    any_from_yields_List (λ (s : Span). same_name c.args.wanted.now (span_bytes c.args.list.now s)) c.any.new.self _ _ c.any.ensures.ran
+    (YieldsList-from_skip c.args.from (YieldsList-at c.skip.ensures.source (YieldsList-from_slice (used_spans c.args.n) (cc))) c.skip.ensures.count)
+    (λ x b q k. search (rules, tests))
+    ∙ any_name _ _ _
+    ∙ ap (among c.args.wanted.now) (names_dropped c.args.list.now c.args.from (used_spans c.args.n))

@@ -1,29 +1,27 @@
--- The name from `from` ends where the name from `i` ends. Assumes nothing.
-use mathlib.Core.Bool.{Bool, true, false}
-use mathlib.Core.Path.{refl, ap}
+-- The bytes before the first space are counted. Assumes nothing.
+use borrow.Author.Rules.{rules}
+use borrow.Author.Tests.{tests}
+use mathlib.Core.Path.{ap, ◌∙◌}
 use native.Mathlib.Omega.{arith}
-use borrow.Author.Tests.{eq-eqb, ne_eqb}
-use Rattle.octets.specs.Choice.{pick}
-use Rattle.classes.proofs.RunLaws.{run_on, run_off, run_out}
+use Prim.Native.Nat.{ℕ, ◌+◌, ◌-◌}
+use lib.ListN.{length, drop, length-drop}
+use lib.Seq.{take_all}
+use Rattle.std.proofs.lemmas.Iterator.{YieldsList-from_slice}
+use Rattle.std.proofs.lemmas.Iterator.Consumers.{YieldsList-at, count_from_yields_List}
+use Rattle.std.proofs.lemmas.Iterator.Search.{YieldsList-from_take_while}
+use Rattle.classes.proofs.RunLaws.{run_le}
 use Rattle.names.specs.NameList.{is_name_byte}
+use Rattle.names.proofs.NameListLaws.{name_taken}
 use Rattle.names.proofs.reading.name_end.Goals as goal
 
--- a byte of a name, by whether it is a space
-abbrev by_test : Bool → Bool
-by_test t = pick t false true
-
-pub loop-i-init : goal.loop-i-init
-loop-i-init c = refl
-
-pub returns-then-text-i-eq32 : goal.returns-then-text-i-eq32
-returns-then-text-i-eq32 c =
-    let e = ap by_test (eq-eqb _ 32 c.if-text-i-eq32.true) in
-    omega (arith, run_off is_name_byte c.args.text.now c.loop-i.i c.loop-i-test.true e)
-
-pub loop-i-preserved : goal.loop-i-preserved
-loop-i-preserved c =
-    let e = ap by_test (ne_eqb _ 32 c.if-text-i-eq32.false) in
-    omega (arith, run_on is_name_byte c.args.text.now c.loop-i.i c.loop-i-test.true e)
+pub returns-then-text-from : goal.returns-then-text-from
+returns-then-text-from c = omega (arith, run_le is_name_byte (drop c.args.from c.args.text.now), length-drop c.args.from c.args.text.now)
 
 pub returns : goal.returns
-returns c = omega (arith, run_out is_name_byte c.args.text.now c.loop-i.i c.loop-i-test.false)
+returns c =
+    let left = drop c.args.from c.args.text.now in
+    let r = c.iter.ensures.rest ∙ take_all (length c.args.text.now - c.args.from) left (omega (arith, length-drop c.args.from c.args.text.now)) in
+    let n = count_from_yields_List c.take_while.result _ c.count.ensures.ran
+    (YieldsList-from_take_while _ is_name_byte (YieldsList-at c.take_while.ensures.source (YieldsList-from_slice left r)) c.take_while.ensures.closure c.take_while.ensures.done (λ x b q k. search (rules, tests)))
+    in
+    ap (λ (k : ℕ). c.args.from + k) (n ∙ name_taken _)

@@ -1,29 +1,24 @@
--- The names from i on are fields just where all are. Assumes nothing.
-use mathlib.Core.List.{List}
-use mathlib.Core.Path.{◌≡◌, refl, sym, ap, ◌∙◌}
-use Prim.Native.Nat.{ℕ}
-use native.Mathlib.Omega.{arith}
-use lib.ListN.{length}
-use Rattle.names.specs.NameList.{names_in}
+-- Each name after the first two is looked up. Assumes nothing.
+use borrow.Author.Rules.{rules}
+use borrow.Author.Tests.{tests}
+use mathlib.Core.Path.{ap, ◌∙◌}
+use Rattle.std.proofs.lemmas.Iterator.{YieldsList-from_slice}
+use Rattle.std.proofs.lemmas.Iterator.Adapters.{YieldsList-from_skip}
+use Rattle.std.proofs.lemmas.Iterator.Consumers.{YieldsList-at}
+use Rattle.std.proofs.lemmas.Iterator.Search.{all_from_yields_List}
 use Rattle.fields.specs.Table.{fields_in}
 use Rattle.stream.specs.Fields.{has_field}
-use Rattle.names.proofs.NameLaws.{names_count, field_miss, field_next, field_out}
+use Rattle.stream.specs.Signatures.{are_fields}
+use Rattle.places.specs.declared.Span.{Span}
+use Rattle.names.specs.NameList.{names_in, span_bytes, used_spans}
+use Rattle.names.proofs.SpanLaws.{all_names, names_dropped}
 use Rattle.names.proofs.rules.are_fields.Goals as goal
 
-pub loop-i-init : goal.loop-i-init
-loop-i-init c = refl
-
-pub returns-then-not-has : goal.returns-then-not-has
-returns-then-not-has c =
-    let ends : c.count-end.result ≡ length ((names_in c.args.list.now c.args.n)) = c.count-end.ensures ∙ sym (names_count _ _) in
-    sym (c.loop-i.invariant ∙ field_miss ((names_in c.args.list.now c.args.n)) c.loop-i.i _ (omega (arith, ends, c.loop-i-test.true)) (sym (c.has.ensures ∙ ap (λ (n : List ℕ). has_field n ((fields_in c.args.text.now c.args.f))) c.name.ensures) ∙ c.if-not-has.true))
-
-pub loop-i-preserved : goal.loop-i-preserved
-loop-i-preserved c =
-    let ends : c.count-end.result ≡ length ((names_in c.args.list.now c.args.n)) = c.count-end.ensures ∙ sym (names_count _ _) in
-    c.loop-i.invariant ∙ field_next ((names_in c.args.list.now c.args.n)) c.loop-i.i _ (omega (arith, ends, c.loop-i-test.true)) (sym (c.has.ensures ∙ ap (λ (n : List ℕ). has_field n ((fields_in c.args.text.now c.args.f))) c.name.ensures) ∙ c.if-not-has.false)
-
 pub returns : goal.returns
+unfolding names_in
 returns c =
-    let ends : c.count-end.result ≡ length ((names_in c.args.list.now c.args.n)) = c.count-end.ensures ∙ sym (names_count _ _) in
-    sym (c.loop-i.invariant ∙ field_out ((names_in c.args.list.now c.args.n)) c.loop-i.i _ (omega (arith, ends, c.loop-i-test.false)))
+    all_from_yields_List (λ (s : Span). has_field (span_bytes c.args.list.now s) (fields_in c.args.text.now c.args.f)) c.all.new.self _ _ c.all.ensures.ran
+    (YieldsList-from_skip 2 (YieldsList-at c.skip.ensures.source (YieldsList-from_slice (used_spans c.args.n) (cc))) c.skip.ensures.count)
+    (λ x b q k. search (rules, tests))
+    ∙ all_names _ _ _
+    ∙ ap (are_fields (fields_in c.args.text.now c.args.f)) (names_dropped c.args.list.now 2 (used_spans c.args.n))
