@@ -1,38 +1,32 @@
 -- What a caller learns from each answer: whether the value is good, and what it then says. Assumes nothing.
-use mathlib.Core.Bool.{Bool, true, false}
+use mathlib.Core.Bool.{true}
 use mathlib.Core.List.{List}
 use mathlib.Core.Path.{◌≡◌, refl, ap, ◌∙◌}
 use Prim.Native.Nat.{ℕ, ◌≤◌}
 use lib.ListN.{length}
-use Rattle.octets.specs.Choice.{pick}
+use Rattle.std.specs.Prelude.{Option, Some, None, is_some, option_map}
 use Rattle.base64_text.specs.Base64.{is_base64, base64_bytes}
 use Rattle.stream.specs.Bytes.{between}
 use Rattle.stream.specs.Numbers.{is_decimal, decimal_value}
 use Rattle.stream.specs.Signatures.{is_injection, id_text, time_text, is_bsigs, key_text, block_size_text, is_sig0, created_text, names_text, head_signature_text}
 use Rattle.stream.specs.Template.{Scanned, is_like}
 use Rattle.stream.proofs.Truth.{left_holds, right_holds, within}
+use Rattle.params.proofs.Options.{is_picked, picked}
 use Rattle.params.specs.BlockSigs.{bsigs_of}
 use Rattle.params.specs.HeadSig.{HeadSig, head_sig_of, head_sig_in, ReadsSig0}
 use Rattle.params.specs.Injection.{injection_of, padded}
 use Rattle.places.specs.Place.{part_of}
-use Rattle.params.specs.declared.bsigs.Bsigs.{Bsigs}
-use Rattle.params.specs.declared.injection.Injection.{Injection}
 use Rattle.params.specs.declared.sig0.Sig0.{Sig0}
-
--- a choice of which a test tells one alternative from the other
-told : {A : Type 0} (f : A → Bool) (t : Bool) (a b : A) → f a ≡ true → f b ≡ false → f (pick t a b) ≡ t
-told f true a b p q = p
-told f false a b p q = q
 
 -- ---- `X-Ouinet-Injection`
 
 module _ (s : Scanned) where
-  pub injection_says : (injection_of s).good ≡ is_injection s
+  pub injection_says : is_some (injection_of s) ≡ is_injection s
   unfolding injection_of
-  injection_says = told (λ (r : Injection). r.good) (is_injection s) _ _ refl refl
+  injection_says = is_picked (is_injection s) _
 
   module _ (h : is_injection s ≡ true) where
-    pub injection_is : injection_of s ≡ record { good = true; id_length = length (id_text s); id = padded 64 (id_text s); time = decimal_value (time_text s) }
+    pub injection_is : injection_of s ≡ Some (record { id_length = length (id_text s); id = padded 64 (id_text s); time = decimal_value (time_text s) })
     unfolding injection_of
     injection_is = rw h
 
@@ -43,12 +37,12 @@ module _ (s : Scanned) where
 -- ---- `X-Ouinet-BSigs`
 
 module _ (s : Scanned) where
-  pub bsigs_says : (bsigs_of s).good ≡ is_bsigs s
+  pub bsigs_says : is_some (bsigs_of s) ≡ is_bsigs s
   unfolding bsigs_of
-  bsigs_says = told (λ (r : Bsigs). r.good) (is_bsigs s) _ _ refl refl
+  bsigs_says = is_picked (is_bsigs s) _
 
   module _ (h : is_bsigs s ≡ true) where
-    pub bsigs_is : bsigs_of s ≡ record { good = true; key = base64_bytes 32 (key_text s); size = decimal_value (block_size_text s) }
+    pub bsigs_is : bsigs_of s ≡ Some (record { key = base64_bytes 32 (key_text s); size = decimal_value (block_size_text s) })
     unfolding bsigs_of
     bsigs_is = rw h
 
@@ -58,28 +52,37 @@ module _ (s : Scanned) where
 
 -- ---- `X-Ouinet-Sig0`
 
-module _ {value : List ℕ} {s : Scanned} {r : Sig0} (h : ReadsSig0 value s r) where
-  pub sig0_says : r.good ≡ is_sig0 s
-  unfolding head_sig_of head_sig_in
-  sig0_says = ap (λ (x : HeadSig). x.good) h.meaning ∙ told (λ (x : HeadSig). x.good) (is_sig0 s) _ _ refl refl
+pub sig0_says : {value : List ℕ} {s : Scanned} {r : Option Sig0} → ReadsSig0 value s r → is_some r ≡ is_sig0 s
+unfolding head_sig_of
+sig0_says {value} {s} {r} h = by r ∙ ap is_some h.meaning ∙ is_picked (is_sig0 s) _
+  where
+    by : (o : Option Sig0) → is_some o ≡ is_some (option_map (head_sig_in value) o)
+    by None = refl
+    by (Some g) = refl
 
-  module _ (g : is_sig0 s ≡ true) where
-    pub sig0_is : head_sig_in value r ≡ record { good = true; key = base64_bytes 32 (key_text s); created = created_text s; names = names_text s; signature = base64_bytes 64 (head_signature_text s) }
-    unfolding head_sig_of
-    sig0_is = h.meaning ∙ rw g
+module _ {value : List ℕ} {s : Scanned} {g : Sig0} (h : ReadsSig0 value s (Some g)) where
+  said : (is_sig0 s ≡ true) × (head_sig_in value g ≡ record { key = base64_bytes 32 (key_text s); created = created_text s; names = names_text s; signature = base64_bytes 64 (head_signature_text s) })
+  unfolding head_sig_of
+  said = picked (is_sig0 s) _ h.meaning
 
-    pub sig0_key : r.key ≡ base64_bytes 32 (key_text s)
-    unfolding head_sig_in
-    sig0_key = ap (λ (x : HeadSig). x.key) sig0_is
+  pub sig0_good : is_sig0 s ≡ true
+  sig0_good = said.0
 
-    pub sig0_created : part_of value r.created_start r.created_end ≡ created_text s
-    unfolding head_sig_in
-    sig0_created = ap (λ (x : HeadSig). x.created) sig0_is
+  pub sig0_is : head_sig_in value g ≡ record { key = base64_bytes 32 (key_text s); created = created_text s; names = names_text s; signature = base64_bytes 64 (head_signature_text s) }
+  sig0_is = said.1
 
-    pub sig0_names : part_of value r.names_start r.names_end ≡ names_text s
-    unfolding head_sig_in
-    sig0_names = ap (λ (x : HeadSig). x.names) sig0_is
+  pub sig0_key : g.key ≡ base64_bytes 32 (key_text s)
+  unfolding head_sig_in
+  sig0_key = ap (λ (x : HeadSig). x.key) sig0_is
 
-    pub sig0_signature : r.signature ≡ base64_bytes 64 (head_signature_text s)
-    unfolding head_sig_in
-    sig0_signature = ap (λ (x : HeadSig). x.signature) sig0_is
+  pub sig0_created : part_of value g.created_start g.created_end ≡ created_text s
+  unfolding head_sig_in
+  sig0_created = ap (λ (x : HeadSig). x.created) sig0_is
+
+  pub sig0_names : part_of value g.names_start g.names_end ≡ names_text s
+  unfolding head_sig_in
+  sig0_names = ap (λ (x : HeadSig). x.names) sig0_is
+
+  pub sig0_signature : g.signature ≡ base64_bytes 64 (head_signature_text s)
+  unfolding head_sig_in
+  sig0_signature = ap (λ (x : HeadSig). x.signature) sig0_is

@@ -1,22 +1,19 @@
 -- The value of `X-Ouinet-Sig0` judged, test by test. Assumes nothing.
 use mathlib.Core.Bool.{Bool, true, false}
 use mathlib.Core.List.{List, [], ◌∷◌}
-use mathlib.Core.Path.{◌≡◌, sym, ap, ◌∙◌}
+use mathlib.Core.Path.{◌≡◌, ◌∙◌}
 use Prim.Native.Nat.{ℕ, ◌+◌, ◌≤◌, ◌<◌}
-use native.Mathlib.Omega.{arith}
 use lib.ListN.{length, drop}
 use Rattle.octets.specs.Octets.{octets}
-use Rattle.base64_text.proofs.Laws.{answer_is, buffer_read}
 use Rattle.base64_text.specs.Base64.{is_base64, base64_bytes}
-use Rattle.base64_text.specs.Decoding.{answered, decoded}
+use Rattle.std.specs.Prelude.{Some, None}
 use Rattle.stream.specs.Bytes.{is_digit, is_quoted}
 use Rattle.stream.specs.Numbers.{is_decimal}
 use Rattle.stream.specs.Signatures.{is_sig0}
 use Rattle.stream.specs.Template.{Part, text, bytes, gap, Scanned, parts, unlike, scan, starts_with}
-use Rattle.places.specs.Place.{part_of}
 use Rattle.text.proofs.SameLaws.{both_false}
 use Rattle.classes.proofs.ScanLaws.{scan_text, scan_unlike, scan_end, scan_over}
-use Rattle.params.specs.HeadSig.{head_sig_of, head_sig_in, ReadsSig0, no_sig0}
+use Rattle.params.specs.HeadSig.{head_sig_of, head_sig_in, ReadsSig0}
 use Rattle.params.specs.Parts.{Inside, run_bytes}
 use Rattle.params.specs.declared.parts.Run.{Run}
 
@@ -33,18 +30,11 @@ name_parts = text (octets "headers=\"") ∷ bytes is_quoted ∷ text (octets "\"
 abbrev pub created_parts : List Part
 created_parts = text (octets "created=") ∷ bytes is_digit ∷ text (octets ",") ∷ gap ∷ name_parts
 
-sig0_none : (value : List ℕ) (s : Scanned) → is_sig0 s ≡ false → ReadsSig0 value s no_sig0
-unfolding head_sig_of head_sig_in part_of
-sig0_none value s e =
-    record {
-      meaning = rw e;
-      created_ordered = omega arith;
-      created_within = omega arith;
-      names_ordered = omega arith;
-      names_within = omega arith;
-    }
+sig0_none : (value : List ℕ) (s : Scanned) → is_sig0 s ≡ false → ReadsSig0 value s None
+unfolding head_sig_of
+sig0_none value s e = record { meaning = rw e; places = tt }
 
-pub sig0_unlike : (value : List ℕ) (s : Scanned) → s ≡ unlike → ReadsSig0 value s no_sig0
+pub sig0_unlike : (value : List ℕ) (s : Scanned) → s ≡ unlike → ReadsSig0 value s None
 unfolding is_sig0
 sig0_unlike value s e = sig0_none value s (rw e)
 
@@ -52,15 +42,15 @@ module _ (value k c n g : List ℕ) where
   abbrev scanned : Scanned
   scanned = parts (k ∷ c ∷ n ∷ g ∷ [])
 
-  pub key_bad : is_base64 32 k ≡ false → ReadsSig0 value scanned no_sig0
+  pub key_bad : is_base64 32 k ≡ false → ReadsSig0 value scanned None
   unfolding is_sig0
   key_bad e = sig0_none value scanned (rw e)
 
-  pub created_bad : is_decimal 12 c ≡ false → ReadsSig0 value scanned no_sig0
+  pub created_bad : is_decimal 12 c ≡ false → ReadsSig0 value scanned None
   unfolding is_sig0
   created_bad e = sig0_none value scanned (rw (e, both_false (is_base64 32 k)))
 
-  pub signature_bad : is_base64 64 g ≡ false → ReadsSig0 value scanned no_sig0
+  pub signature_bad : is_base64 64 g ≡ false → ReadsSig0 value scanned None
   unfolding is_sig0
   signature_bad e = sig0_none value scanned (rw (e, both_false (is_decimal 12 c), both_false (is_base64 32 k)))
 
@@ -68,23 +58,19 @@ module _ (value k c n g : List ℕ) where
 module _ (value k g : List ℕ) (c n : Run) (i : Inside value c) (j : Inside value n) where
   pub sig0_good : is_base64 32 k ≡ true → is_decimal 12 (run_bytes value c) ≡ true → is_base64 64 g ≡ true
       → ReadsSig0 value (parts (k ∷ run_bytes value c ∷ run_bytes value n ∷ g ∷ []))
-      (record {
-        good = true;
+      (Some (record {
         key = base64_bytes 32 k;
         signature = base64_bytes 64 g;
         created_start = c.start;
         created_end = c.end;
         names_start = n.start;
         names_end = n.end;
-      })
+      }))
   unfolding head_sig_of head_sig_in is_sig0
   sig0_good e f h =
       record {
         meaning = rw (e, f, h);
-        created_ordered = i.ordered;
-        created_within = i.ends;
-        names_ordered = j.ordered;
-        names_within = j.ends;
+        places = record { created_ordered = i.ordered; created_within = i.ends; names_ordered = j.ordered; names_within = j.ends };
       }
 
 -- ---- the quote after the signature, at the value's end
@@ -101,14 +87,3 @@ module _ (value : List ℕ) (at : ℕ) where
 
   pub quote_last : quoted ≡ true → length value ≤ at + 1 → scan quote_parts (drop at value) ≡ parts []
   quote_last e h = scan_text [] value at (octets "\"") e ∙ scan_end value (at + 1) h
-
--- ---- a text decoded, where u is another name for it
-
-module _ (n : ℕ) (t before u : List ℕ) {ok : Bool} {after : List ℕ} (said : answered ok after ≡ decoded n t before) (e : t ≡ u) where
-  pub decoded_no : ok ≡ false → is_base64 n u ≡ false
-  decoded_no h = ap (is_base64 n) (sym e) ∙ sym (answer_is n t before said) ∙ h
-
-  pub decoded_yes : ok ≡ true → (is_base64 n u ≡ true) × (after ≡ base64_bytes n u)
-  decoded_yes h =
-      let k = sym (answer_is n t before said) ∙ h in
-      (ap (is_base64 n) (sym e) ∙ k, buffer_read n t before said k ∙ ap (base64_bytes n) e)

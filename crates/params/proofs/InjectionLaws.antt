@@ -11,6 +11,7 @@ use Rattle.stream.specs.Bytes.{is_digit}
 use Rattle.stream.specs.Numbers.{is_decimal, decimal_value}
 use Rattle.stream.specs.Signatures.{is_injection}
 use Rattle.stream.specs.Template.{Part, text, bytes, Scanned, parts, unlike}
+use Rattle.std.specs.Prelude.{Some, None}
 use Rattle.text.proofs.SameLaws.{both_false}
 use Rattle.params.specs.Injection.{injection_of, padded}
 
@@ -18,27 +19,31 @@ use Rattle.params.specs.Injection.{injection_of, padded}
 abbrev pub time_parts : List Part
 time_parts = text (octets ",ts=") ∷ bytes is_digit ∷ []
 
+pub injection_unlike : (s : Scanned) → s ≡ unlike → None ≡ injection_of s
+unfolding injection_of is_injection
+injection_unlike s e = rw e
+
 module _ (id time : List ℕ) where
   abbrev scanned : Scanned
   scanned = parts (id ∷ time ∷ [])
 
-  refused : is_injection scanned ≡ false → injection_of scanned ≡ injection_of unlike
+  refused : is_injection scanned ≡ false → None ≡ injection_of scanned
   unfolding injection_of is_injection
   refused e = rw e
 
-  pub id_missing : length id < 1 → injection_of scanned ≡ injection_of unlike
+  pub id_missing : length id < 1 → None ≡ injection_of scanned
   unfolding is_injection
   id_missing h = refused (rw (lt-leb 1 (length id) h))
 
-  pub id_long : 64 < length id → injection_of scanned ≡ injection_of unlike
+  pub id_long : 64 < length id → None ≡ injection_of scanned
   unfolding is_injection
   id_long h = refused (rw (lt-leb (length id) 64 h, both_false (leb 1 (length id))))
 
-  pub time_bad : is_decimal 12 time ≡ false → injection_of scanned ≡ injection_of unlike
+  pub time_bad : is_decimal 12 time ≡ false → None ≡ injection_of scanned
   unfolding is_injection
   time_bad e = refused (rw (e, both_false (leb 1 (length id) && leb (length id) 64)))
 
   pub injection_good : 1 ≤ length id → length id ≤ 64 → is_decimal 12 time ≡ true
-      → injection_of scanned ≡ record { good = true; id_length = length id; id = padded 64 id; time = decimal_value time }
+      → Some (record { id_length = length id; id = padded 64 id; time = decimal_value time }) ≡ injection_of scanned
   unfolding injection_of is_injection
   injection_good h k e = rw (le-leb 1 (length id) h, le-leb (length id) 64 k, e)

@@ -1,3 +1,4 @@
+pub mod Options
 pub mod PartLaws
 pub mod InjectionLaws
 pub mod BsigsLaws

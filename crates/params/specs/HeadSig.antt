@@ -1,5 +1,5 @@
 -- What the value of `X-Ouinet-Sig0` says (paper 01, "The head"), and of `X-Ouinet-Sig1`, which is "written as Sig0" (request #101). Assumes nothing.
-use Rattle.std.specs.Prelude.{Bool, true, false, List, [], ◌≡◌, ℕ, ◌≤◌, length, replicate}
+use Rattle.std.specs.Prelude.{List, ◌≡◌, ℕ, ◌≤◌, length, Option, Some, None, IfSome, option_map}
 use Rattle.octets.specs.Choice.{pick}
 use Rattle.base64_text.specs.Base64.{base64_bytes}
 use Rattle.stream.specs.Signatures.{is_sig0, key_text, created_text, names_text, head_signature_text}
@@ -9,46 +9,36 @@ use Rattle.params.specs.declared.sig0.Sig0.{Sig0}
 
 -- a signature of a head, with its texts themselves
 pub record HeadSig : Type 0 where
-  pub good : Bool
   pub key : List ℕ
   pub created : List ℕ
   pub names : List ℕ
   pub signature : List ℕ
 
--- the parameters of a good value, zeros and empty texts of any other
-unfoldable pub head_sig_of : Scanned → HeadSig
+-- the parameters of a good value
+unfoldable pub head_sig_of : Scanned → Option HeadSig
 head_sig_of s =
     pick (is_sig0 s)
-    (record { good = true; key = base64_bytes 32 (key_text s); created = created_text s; names = names_text s; signature = base64_bytes 64 (head_signature_text s) })
-    (record { good = false; key = replicate 32 0; created = []; names = []; signature = replicate 64 0 })
+    (Some (record { key = base64_bytes 32 (key_text s); created = created_text s; names = names_text s; signature = base64_bytes 64 (head_signature_text s) }))
+    None
 
 -- an answer, with the texts at its places in the value
 unfoldable pub head_sig_in : List ℕ → Sig0 → HeadSig
 head_sig_in value r =
     record {
-      good = r.good;
       key = r.key;
       created = part_of value r.created_start r.created_end;
       names = part_of value r.names_start r.names_end;
       signature = r.signature;
     }
 
--- r answers for a value of which s was made; its places are those of parts of the value
-pub record ReadsSig0 (value : List ℕ) (s : Scanned) (r : Sig0) : Type 0 where
-  pub meaning : head_sig_in value r ≡ head_sig_of s
+-- its places are those of parts of the value
+pub record Places (value : List ℕ) (r : Sig0) : Type 0 where
   pub created_ordered : r.created_start ≤ r.created_end
   pub created_within : r.created_end ≤ length value
   pub names_ordered : r.names_start ≤ r.names_end
   pub names_within : r.names_end ≤ length value
 
-abbrev pub no_sig0 : Sig0
-no_sig0 =
-    record {
-      good = false;
-      key = replicate 32 0;
-      signature = replicate 64 0;
-      created_start = 0;
-      created_end = 0;
-      names_start = 0;
-      names_end = 0;
-    }
+-- r answers for a value of which s was made
+pub record ReadsSig0 (value : List ℕ) (s : Scanned) (r : Option Sig0) : Type 0 where
+  pub meaning : option_map (head_sig_in value) r ≡ head_sig_of s
+  pub places : IfSome r (Places value)

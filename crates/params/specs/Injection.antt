@@ -1,5 +1,5 @@
 -- What the value of `X-Ouinet-Injection` says (paper 01, "The head"). Assumes nothing.
-use Rattle.std.specs.Prelude.{true, false, List, ◌++◌, ℕ, ◌-◌, length, replicate}
+use Rattle.std.specs.Prelude.{List, ◌++◌, ℕ, ◌-◌, length, replicate, Option, Some, None}
 use Rattle.octets.specs.Choice.{pick}
 use Rattle.stream.specs.Limits.{id_limit}
 use Rattle.stream.specs.Numbers.{decimal_value}
@@ -11,9 +11,7 @@ use Rattle.params.specs.declared.injection.Injection.{Injection}
 unfoldable pub padded : ℕ → List ℕ → List ℕ
 padded n l = l ++ replicate (n - length l) 0
 
--- the id and the time of a good value, zeros of any other
-unfoldable pub injection_of : Scanned → Injection
+-- the id and the time of a good value
+unfoldable pub injection_of : Scanned → Option Injection
 injection_of s =
-    pick (is_injection s)
-    (record { good = true; id_length = length (id_text s); id = padded id_limit (id_text s); time = decimal_value (time_text s) })
-    (record { good = false; id_length = 0; id = replicate id_limit 0; time = 0 })
+    pick (is_injection s) (Some (record { id_length = length (id_text s); id = padded id_limit (id_text s); time = decimal_value (time_text s) })) None

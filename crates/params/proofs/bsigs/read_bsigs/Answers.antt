@@ -3,24 +3,23 @@ use mathlib.Core.Path.{sym, ap, ◌∙◌}
 use Rattle.classes.specs.Class.{class_of}
 use Rattle.stream.specs.Signatures.{bsigs_scan}
 use Rattle.params.specs.BlockSigs.{bsigs_of}
-use Rattle.params.proofs.BsigsLaws.{size_parts}
+use Rattle.params.proofs.BsigsLaws.{size_parts, bsigs_unlike}
 use Rattle.params.proofs.PartLaws.{first_none, second_none, second_over, both_read}
 use Rattle.params.proofs.bsigs.read_bsigs.Goals as goal
 
-pub returns-in_default : goal.returns-in_default
+pub returns-in_err-key : goal.returns-in_err-key
 unfolding class_of bsigs_scan
-returns-in_default c = c.no_bsigs.ensures ∙ ap bsigs_of (sym (first_none _ size_parts _ c.in_default.ensures))
+returns-in_err-key c = c.from_residual.ensures ∙ bsigs_unlike _ (first_none _ size_parts _ c.in_err-key.ensures)
 
-pub returns-in_default-run_after : goal.returns-in_default-run_after
+pub returns-in_err-size : goal.returns-in_err-size
 unfolding class_of bsigs_scan
-returns-in_default-run_after c = c.no_bsigs-in_default-run_after.ensures ∙ ap bsigs_of (sym (second_none _ size_parts _ c.in-Some.ensures c.in_default-run_after.ensures))
+returns-in_err-size c = c.from_residual-in_err-size.ensures ∙ bsigs_unlike _ (second_none _ size_parts _ c.in_ok-key.ensures c.in_err-size.ensures)
 
 pub returns-then-size-value : goal.returns-then-size-value
 unfolding class_of bsigs_scan
-returns-then-size-value c =
-    c.no_bsigs-then-size-value.ensures ∙ ap bsigs_of (sym (second_over _ size_parts _ c.in-Some.ensures c.in-Some-run_after.ensures c.if-size-value.true))
+returns-then-size-value c = bsigs_unlike _ (second_over _ size_parts _ c.in_ok-key.ensures c.in_ok-size.ensures c.if-size-value.true)
 
 pub returns : goal.returns
 unfolding class_of bsigs_scan
 returns c =
-    c.judge.ensures ∙ rw (c.bytes_of.ensures, c.bytes_of-2.ensures) (ap bsigs_of (sym (both_read _ size_parts _ c.in-Some.ensures c.in-Some-run_after.ensures c.if-size-value.false)))
+    c.judge.ensures ∙ rw (c.bytes_of.ensures, c.bytes_of-2.ensures) (ap bsigs_of (sym (both_read _ size_parts _ c.in_ok-key.ensures c.in_ok-size.ensures c.if-size-value.false)))

@@ -71,46 +71,43 @@ module _ {v : List ℕ} where
 
 -- ---- the answers
 
-pub returns-in_default : goal.returns-in_default
-returns-in_default c = rw c.no_sig0.ensures (sig0_unlike _ _ (key_none c.in_default.ensures))
+pub returns-in_err-key : goal.returns-in_err-key
+returns-in_err-key c = rw c.from_residual.ensures (sig0_unlike _ _ (key_none c.in_err-key.ensures))
 
-pub returns-in_default-run_up_to : goal.returns-in_default-run_up_to
+pub returns-in_err-created : goal.returns-in_err-created
 unfolding class_of
-returns-in_default-run_up_to c = rw c.no_sig0-in_default-run_up_to.ensures (sig0_unlike _ _ (created_none c.in-Some.ensures c.in_default-run_up_to.ensures))
+returns-in_err-created c = rw c.from_residual-in_err-created.ensures (sig0_unlike _ _ (created_none c.in_ok-key.ensures c.in_err-created.ensures))
 
-pub returns-in_default-run_up_to-2 : goal.returns-in_default-run_up_to-2
+pub returns-in_err-names : goal.returns-in_err-names
 unfolding class_of
-returns-in_default-run_up_to-2 c =
-    rw c.no_sig0-in_default-run_up_to-2.ensures (sig0_unlike _ _ (names_none c.in-Some.ensures c.in-Some-run_up_to.ensures c.in_default-run_up_to-2.ensures))
+returns-in_err-names c = rw c.from_residual-in_err-names.ensures (sig0_unlike _ _ (names_none c.in_ok-key.ensures c.in_ok-created.ensures c.in_err-names.ensures))
 
-pub returns-in_default-run_after : goal.returns-in_default-run_after
+pub returns-in_err-signature : goal.returns-in_err-signature
 unfolding class_of
-returns-in_default-run_after c =
-    rw c.no_sig0-in_default-run_after.ensures
-    (sig0_unlike _ _ (signature_none c.in-Some.ensures c.in-Some-run_up_to.ensures c.in-Some-run_up_to-2.ensures c.in_default-run_after.ensures))
+returns-in_err-signature c =
+    rw c.from_residual-in_err-signature.ensures
+    (sig0_unlike _ _ (signature_none c.in_ok-key.ensures c.in_ok-created.ensures c.in_ok-names.ensures c.in_err-signature.ensures))
 
 pub returns-then-not-starts_with : goal.returns-then-not-starts_with
 unfolding class_of
 returns-then-not-starts_with c =
-    rw c.no_sig0-then-not-starts_with.ensures
-    (sig0_unlike _ _ (after_signature c.in-Some.ensures c.in-Some-run_up_to.ensures c.in-Some-run_up_to-2.ensures c.in-Some-run_after.ensures
-    (quote_missing c.args.value.now c.in-Some-run_after.signature.next (sym c.starts_with.ensures ∙ c.if-not-starts_with.true))))
+    sig0_unlike _ _ (after_signature c.in_ok-key.ensures c.in_ok-created.ensures c.in_ok-names.ensures c.in_ok-signature.ensures
+    (quote_missing c.args.value.now c.in_ok-signature.signature.next (sym c.starts_with.ensures ∙ c.if-not-starts_with.true)))
 
 pub overflow_add-signature : goal.overflow_add-signature
-overflow_add-signature c = omega (arith, c.in-Some-run_after.ensures.inside.goes_on, c.well_formed)
+overflow_add-signature c = omega (arith, c.in_ok-signature.ensures.inside.goes_on, c.well_formed)
 
 pub returns-then-signature-value : goal.returns-then-signature-value
 unfolding class_of
 returns-then-signature-value c =
-    rw c.no_sig0-then-signature-value.ensures
-    (sig0_unlike _ _ (after_signature c.in-Some.ensures c.in-Some-run_up_to.ensures c.in-Some-run_up_to-2.ensures c.in-Some-run_after.ensures
-    (quote_over _ _ (sym c.starts_with.ensures ∙ c.if-not-starts_with.false) c.if-signature-value.true)))
+    sig0_unlike _ _ (after_signature c.in_ok-key.ensures c.in_ok-created.ensures c.in_ok-names.ensures c.in_ok-signature.ensures
+    (quote_over _ _ (sym c.starts_with.ensures ∙ c.if-not-starts_with.false) c.if-signature-value.true))
 
 pub judge-requires : goal.judge-requires
-judge-requires c = (c.in-Some.ensures.inside, c.in-Some-run_up_to.ensures.inside, c.in-Some-run_up_to-2.ensures.inside, c.in-Some-run_after.ensures.inside)
+judge-requires c = (c.in_ok-key.ensures.inside, c.in_ok-created.ensures.inside, c.in_ok-names.ensures.inside, c.in_ok-signature.ensures.inside)
 
 pub returns : goal.returns
 unfolding class_of
 returns c =
-    rw (after_signature c.in-Some.ensures c.in-Some-run_up_to.ensures c.in-Some-run_up_to-2.ensures c.in-Some-run_after.ensures
+    rw (after_signature c.in_ok-key.ensures c.in_ok-created.ensures c.in_ok-names.ensures c.in_ok-signature.ensures
     (quote_last _ _ (sym c.starts_with.ensures ∙ c.if-not-starts_with.false) c.if-signature-value.false)) c.judge.ensures
