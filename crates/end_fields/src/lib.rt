@@ -7,4 +7,4 @@ mod reading; // all three
 
 pub use found::{has, is_once, value_of};
 pub use reading::{EndRead, is_claimed, read_end};
-pub use texts::{DataSize, Digest, read_data_size, read_digest};
+pub use texts::{read_data_size, read_digest};

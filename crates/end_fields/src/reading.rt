@@ -5,17 +5,15 @@ ghost use Rattle.stream.specs.Ends.{is_claimed};
 ghost use Rattle.end_fields.specs.Found.{AreLines, both_in};
 ghost use Rattle.end_fields.specs.Reading.{ReadsEnd};
 
-use crate::texts::{DataSize, Digest};
 use crate::{found, texts};
 use fields::Fields;
 use params::Sig0;
 
-// Whether each is there once, and what each says. The places of `sig1` are places in the value of `X-Ouinet-Sig1`.
+// What each says. The places of `sig1` are places in the value of `X-Ouinet-Sig1`.
 #[derive(Clone, Copy)]
 pub struct EndRead {
-    pub once: bool,
-    pub digest: Digest,
-    pub size: DataSize,
+    pub digest: [u8; 32],
+    pub size: u64,
     pub sig1: Sig0,
 }
 
@@ -29,20 +27,18 @@ pub fn is_claimed(text: &[u8], f: Fields, trailer: &[u8]) -> bool
     digest | (size | sig1)
 }
 
-// Each is read as if it were there once: of more than one it is the first, and of none an empty text.
-pub fn read_end<'a>(text: &'a [u8], f: Fields, trailer: &'a [u8]) -> EndRead
+// None where one of them is not there once, or is not good.
+pub fn read_end<'a>(text: &'a [u8], f: Fields, trailer: &'a [u8]) -> Option<EndRead>
     ensures { AreLines trailer.now → ReadsEnd (both_in text.now f trailer.now) result }
 {
     let first = found::is_once(text, f, trailer, b"digest");
     let second = found::is_once(text, f, trailer, b"x-ouinet-data-size");
     let third = found::is_once(text, f, trailer, b"x-ouinet-sig1");
-    let digest = texts::read_digest(found::value_of(text, f, trailer, b"digest"));
-    let size = texts::read_data_size(found::value_of(text, f, trailer, b"x-ouinet-data-size"));
-    let sig1 = params::read_sig0(found::value_of(text, f, trailer, b"x-ouinet-sig1"));
-    EndRead {
-        once: first & (second & third),
-        digest,
-        size,
-        sig1,
+    if !(first & (second & third)) {
+        return None;
     }
+    let digest = texts::read_digest(found::value_of(text, f, trailer, b"digest"))?;
+    let size = texts::read_data_size(found::value_of(text, f, trailer, b"x-ouinet-data-size"))?;
+    let sig1 = params::read_sig0(found::value_of(text, f, trailer, b"x-ouinet-sig1"))?;
+    Some(EndRead { digest, size, sig1 })
 }

@@ -1,42 +1,18 @@
-// What `Digest` and `X-Ouinet-Data-Size` say.
+// What `Digest` and `X-Ouinet-Data-Size` say, where they are good.
 ghost use Rattle.std.specs.Prelude.{◌≡◌};
 ghost use Rattle.end_fields.specs.Texts.{digest_of, data_size_of};
 
-// The bytes are zero where the text is not good.
-#[derive(Clone, Copy)]
-pub struct Digest {
-    pub good: bool,
-    pub bytes: [u8; 32],
-}
-
-#[derive(Clone, Copy)]
-pub struct DataSize {
-    pub good: bool,
-    pub value: u64,
-}
-
-pub fn read_digest(value: &[u8]) -> Digest
+pub fn read_digest(value: &[u8]) -> Option<[u8; 32]>
     ensures { result ≡ digest_of value.now }
 {
-    let mut bytes = [0u8; 32];
     if !text::starts_with(value, 0, b"SHA-256=") {
-        return Digest { good: false, bytes };
+        return None;
     }
-    let good = base64_text::key(places::part(value, 8, value.len()), &mut bytes);
-    Digest { good, bytes }
+    base64_text::bytes(places::part(value, 8, value.len()))
 }
 
-pub fn read_data_size(value: &[u8]) -> DataSize
+pub fn read_data_size(value: &[u8]) -> Option<u64>
     ensures { result ≡ data_size_of value.now }
 {
-    match number::decimal(value, limits::DATA_SIZE_DIGITS) {
-        Ok(n) => DataSize {
-            good: true,
-            value: n,
-        },
-        Err(_) => DataSize {
-            good: false,
-            value: 0,
-        },
-    }
+    number::decimal(value, limits::DATA_SIZE_DIGITS).ok()
 }

@@ -7,4 +7,4 @@ pub returns-then-not-starts_with : goal.returns-then-not-starts_with
 returns-then-not-starts_with c = no_label _ (sym c.starts_with.ensures ∙ c.if-not-starts_with.true)
 
 pub returns : goal.returns
-returns c = digest_read _ (sym c.starts_with.ensures ∙ c.if-not-starts_with.false) _ c.part.ensures _ _ c.key-good.ensures
+returns c = rw (c.bytes.ensures.read, c.part.ensures) (digest_read _ (sym c.starts_with.ensures ∙ c.if-not-starts_with.false))
