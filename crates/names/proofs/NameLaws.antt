@@ -1,9 +1,8 @@
 -- The listed names, and the rule of the list. Assumes nothing.
 use mathlib.Core.Bool.{◌&&◌, not}
 use mathlib.Core.List.{List, [], ◌∷◌}
-use mathlib.Core.Path.{◌≡◌, refl}
+use mathlib.Core.Path.{◌≡◌, refl, ◌∙◌}
 use Prim.Native.Nat.{ℕ, zero, suc, ◌≤◌, min}
-use native.Mathlib.Omega.{arith}
 use borrow.Author.Tests.{le-leb}
 use lib.ListN.{length, get_or, length-map, length-take}
 use Rattle.stream.specs.Bytes.{same_name}
@@ -15,9 +14,9 @@ use Rattle.stream.specs.Template.{nth}
 use Rattle.names.specs.NameList.{span_bytes, used_spans, names_in}
 use Rattle.names.specs.declared.reading.Names.{Names}
 
-pub names_few : (l : List ℕ) (n : Names) → length (names_in l n) ≤ name_limit
+pub names_count : (l : List ℕ) (n : Names) → length (names_in l n) ≡ min (min n.count name_limit) (length n.spans)
 unfolding names_in
-names_few l n = omega (arith, length-map (used_spans n) (span_bytes l), length-take (min n.count name_limit) n.spans)
+names_count l n = length-map (used_spans n) (span_bytes l) ∙ length-take (min n.count name_limit) n.spans
 
 -- ---- the rule of the list
 

@@ -1,7 +1,7 @@
 -- Each test is the definition's, of the names that the spans stand for. Assumes nothing.
 use mathlib.Core.Path.{sym}
 use native.Mathlib.Omega.{arith}
-use Rattle.names.proofs.NameLaws.{names_few, list_is}
+use Rattle.names.proofs.NameLaws.{names_count, list_is}
 use Rattle.names.proofs.rules.is_list.Goals as goal
 
 pub returns : goal.returns
@@ -18,4 +18,4 @@ returns c =
       c.among-injection.ensures,
       c.among-itself.ensures,
     )
-    (sym (list_is _ _ (omega (arith, names_few c.args.list.now c.args.n))))
+    (sym (list_is _ _ (omega (arith, names_count c.args.list.now c.args.n))))

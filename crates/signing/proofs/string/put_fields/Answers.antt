@@ -1,5 +1,5 @@
 -- What is written, with the lines of the names from i on, is all lines. Assumes nothing.
-use mathlib.Core.Path.{◌≡◌, refl, sym, ◌∙◌}
+use mathlib.Core.Path.{◌≡◌, refl, ◌∙◌}
 use Prim.Native.Nat.{◌<◌}
 use native.Mathlib.Omega.{arith}
 use lib.ListN.{length}
@@ -14,7 +14,7 @@ loop-i-init c = (refl, refl)
 
 pub loop-i-preserved : goal.loop-i-preserved
 loop-i-preserved c =
-    let ends : c.count-i-end.result ≡ length ((names_in c.args.list.now c.args.n)) = c.count-i-end.ensures ∙ sym (names_count _ _) in
+    let ends : c.count-i-end.result ≡ length ((names_in c.args.list.now c.args.n)) = omega (arith, c.count-i-end.ensures, names_count c.args.list.now c.args.n) in
     let goes_on : c.loop-i.i < length ((names_in c.args.list.now c.args.n)) = omega (arith, ends, c.loop-i-test.true) in
     let x = c.loop-i.invariant in
     let t = turn_written ((fields_in c.args.text.now c.args.f)) ((names_in c.args.list.now c.args.n)) c.loop-i.i c.loop-i.out c.loop-i.at (goes_on) _ c.name.ensures _ _ c.put-start.ensures _ _ c.put_field-at.ensures in
@@ -25,5 +25,5 @@ shape_of-out c = c.loop-i.invariant.0
 
 pub returns : goal.returns
 returns c =
-    let ends : c.count-i-end.result ≡ length ((names_in c.args.list.now c.args.n)) = c.count-i-end.ensures ∙ sym (names_count _ _) in
+    let ends : c.count-i-end.result ≡ length ((names_in c.args.list.now c.args.n)) = omega (arith, c.count-i-end.ensures, names_count c.args.list.now c.args.n) in
     turns_end ((fields_in c.args.text.now c.args.f)) ((names_in c.args.list.now c.args.n)) c.loop-i.i c.loop-i.out c.loop-i.at (omega (arith, ends, c.loop-i-test.false)) ∙ c.loop-i.invariant.1
