@@ -1,4 +1,4 @@
--- A text that was read without fault: the rules hold, and the places stand for what the head says. Assumes nothing.
+-- A text that was read as a head: the rules hold, and the places stand for what the head says. Assumes nothing.
 use mathlib.Core.Bool.{true}
 use mathlib.Core.List.{List}
 use mathlib.Core.Path.{◌≡◌, refl, sym, ap, ap₂, ◌∙◌}
@@ -11,15 +11,15 @@ use Rattle.places.specs.Place.{part_of}
 use Rattle.fields.specs.Table.{fields_in}
 use Rattle.names.specs.NameList.{names_in}
 use Rattle.params.proofs.Answers.{sig0_created, sig0_names}
-use Rattle.head.specs.Reading.{Reads, signed_digits}
+use Rattle.head.specs.Reading.{Says, signed_digits}
 use Rattle.head.specs.declared.whole.HeadRead.{HeadRead}
 use Rattle.head.proofs.FirstLine.{status_place}
 use Rattle.head.proofs.StatusLaws.{signed_is}
 
-module _ (text : List ℕ) (r : HeadRead) (x : Reads text r) (z : r.fault ≡ 0) where
+module _ (text : List ℕ) (r : HeadRead) (x : Says text r) where
   pub rules_kept : AllHold (text_rules text (head_of text))
   unfolding text_rules
-  rules_kept = rules_hold (text_rules text (head_of text)) refl (sym x.fault ∙ z)
+  rules_kept = rules_hold (text_rules text (head_of text)) refl x.kept
 
   pub status_good : is_status_line (head_of text).status_line ≡ true
   unfolding text_rules
@@ -56,10 +56,10 @@ module _ (text : List ℕ) (r : HeadRead) (x : Reads text r) (z : r.fault ≡ 0)
 
   -- the status that is signed, as a text that stands for it
   pub signed_there : (status : List ℕ) → status ≡ signed_digits (part_of text 9 12) (fields_in text r.fields) → status ≡ signed_status (head_of text)
-  signed_there status e = e ∙ ap₂ signed_digits digits_there (x.says z).fields ∙ signed_is (head_of text)
+  signed_there status e = e ∙ ap₂ signed_digits digits_there x.fields ∙ signed_is (head_of text)
 
   pub created_there : part_of text r.signed.sig0.created_start r.signed.sig0.created_end ≡ created_text (head_of text).sig0
-  created_there = sig0_created (x.says z).sig0 sig0_good
+  created_there = sig0_created x.sig0
 
   pub names_there : (list : List ℕ) → list ≡ part_of text r.signed.sig0.names_start r.signed.sig0.names_end → names_in list r.signed.names ≡ listed_names (head_of text)
-  names_there list e = ap (λ (l : List ℕ). names_in l r.signed.names) (e ∙ sig0_names (x.says z).sig0 sig0_good) ∙ (x.says z).names
+  names_there list e = ap (λ (l : List ℕ). names_in l r.signed.names) (e ∙ sig0_names x.sig0) ∙ x.names

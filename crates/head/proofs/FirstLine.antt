@@ -7,16 +7,17 @@ use native.Mathlib.Omega.{arith}
 use lib.Dec.{leb}
 use lib.ListN.{length, take, drop, length-take, length-map}
 use lib.Seq.{take-nil}
+use Rattle.std.specs.Prelude.{None, Some}
 use Rattle.stream.specs.Fields.{is_protected_doubled, names_of}
 use Rattle.stream.specs.Head.{head_of, head_with, ends_head, status_digits}
 use Rattle.stream.specs.Limits.{field_limit}
 use Rattle.stream.specs.Lines.{crlf, ends_with, lines, before_empty, text_lines, is_status_line, status_of, are_field_lines, field_of, fields_of}
 use Rattle.stream.specs.Template.{nth}
-use Rattle.stream.proofs.Truth.{left_holds, right_holds}
+use Rattle.stream.proofs.Truth.{right_holds}
 use Rattle.fields.specs.Answers.{ReadsFields}
 use Rattle.places.specs.Place.{part_of}
 use Rattle.fields.specs.Table.{fields_in}
-use Rattle.fields.specs.declared.reading.FieldsRead.{FieldsRead}
+use Rattle.fields.specs.declared.table.Fields.{Fields}
 use Rattle.fields.proofs.ReadLaws.{fields_good, fields_are}
 use Rattle.field_lines.proofs.StatusLaws.{status_digits_lem, status_room}
 use Rattle.text.specs.Line.{line_length}
@@ -52,48 +53,46 @@ status_place s h =
 
 -- ---- the rules of lines
 
--- the lines after the first, and what was read of them
-module _ (s : List ℕ) (ls : List (List ℕ)) (r : FieldsRead) (x : ReadsFields s ls r) where
-  abbrev doubled : Bool
-  doubled = is_protected_doubled (names_of (fields_in s r.fields))
+-- the first line ends at e; a and b are the tests that were made
+module _ (s : List ℕ) (e : ℕ) (f : e ≡ 0 + line_length s) (a b : Bool) (line : List ℕ) (p : a ≡ ends_with (crlf ++ crlf) s) (q : b ≡ is_status_line line)
+    (l : line ≡ part_of s 0 e) where
+  abbrev ls : List (List ℕ)
+  ls = text_lines (drop (e + 2) s)
 
-  fields_kept : r.good && not doubled ≡ are_field_lines ls && (leb (length (fields_of ls)) field_limit && not (is_protected_doubled (names_of (fields_of ls))))
-  unfolding fields_of
-  fields_kept =
-      let d = not (is_protected_doubled (names_of (fields_of ls))) in
-      go r.good refl ∙ ap (λ (b : Bool). b && d) (fields_good x) ∙ and_assoc (are_field_lines ls) (leb (length ls) field_limit) d ∙ rw (length-map ls field_of)
-    where
-      go : (g : Bool) → r.good ≡ g → g && not doubled ≡ g && not (is_protected_doubled (names_of (fields_of ls)))
-      go true e = rw (fields_are x e)
-      go false e = refl
+  abbrev single : List (List ℕ) → Bool
+  single names = not (is_protected_doubled names)
 
--- the first line ends at e; a, b and d are the tests that were made
-module _ (s : List ℕ) (e : ℕ) (f : e ≡ 0 + line_length s) (r : FieldsRead) (x : ReadsFields s (text_lines (drop (e + 2) s)) r) where
-  module _ (t : is_status_line (part_of s 0 e) ≡ true) where
-    others : (head_of s).field_lines ≡ text_lines (drop (e + 2) s)
+  abbrev rest : Bool
+  rest = are_field_lines (head_of s).field_lines && (leb (length (head_of s).fields) field_limit && single (names_of (head_of s).fields))
+
+  good_by : are_good_lines s (head_of s) ≡ (a && b) && rest
+  unfolding are_good_lines head_of head_with ends_head
+  good_by = rw (p, q, l, first_line_lem s e (omega arith)) (sym (and_assoc (ends_with (crlf ++ crlf) s) (is_status_line (part_of s 0 e)) rest))
+
+  pub bad_line : a && b ≡ false → ReadsLines s None
+  bad_line h = record { good = rw (good_by, h); fields = tt }
+
+  module _ (t : a && b ≡ true) where
+    others : (head_of s).field_lines ≡ ls
     unfolding head_of head_with
-    others = other_lines s e (omega arith) (omega (arith, status_long s e t))
+    others = other_lines s e (omega arith) (omega (arith, status_long s e (sym (q ∙ ap is_status_line l) ∙ right_holds a b t)))
 
-    pub fields_there : r.good ≡ true → fields_in s r.fields ≡ (head_of s).fields
+    fields_there : fields_of ls ≡ (head_of s).fields
     unfolding head_of head_with
-    fields_there g = fields_are x g ∙ ap fields_of (sym others)
+    fields_there = ap fields_of (sym others)
 
-  lines_kept : ends_head s && (is_status_line (part_of s 0 e) && (r.good && not (doubled s (text_lines (drop (e + 2) s)) r x))) ≡ are_good_lines s (head_of s)
-  unfolding are_good_lines head_of head_with
-  lines_kept = go (is_status_line (part_of s 0 e)) refl
-    where
-      go : (t : Bool) → is_status_line (part_of s 0 e) ≡ t → ends_head s && (t && (r.good && not (doubled s (text_lines (drop (e + 2) s)) r x))) ≡ are_good_lines s (head_of s)
-      go true k = rw (others k, fields_kept s (text_lines (drop (e + 2) s)) r x, first_line_lem s e (omega arith), k)
-      go false k = rw (first_line_lem s e (omega arith), k)
+    good_lines : are_good_lines s (head_of s) ≡ (are_field_lines ls && leb (length ls) field_limit) && single (names_of (fields_of ls))
+    unfolding fields_of
+    good_lines =
+        let d = single (names_of (fields_of ls)) in
+        good_by ∙ rw (t, others, ← fields_there, length-map ls field_of) (sym (and_assoc (are_field_lines ls) (leb (length ls) field_limit) d))
 
-  pub reads_lines : (a b d : Bool) (line : List ℕ) → a ≡ ends_with (crlf ++ crlf) s → b ≡ is_status_line line → line ≡ part_of s 0 e
-      → d ≡ is_protected_doubled (names_of (fields_in s r.fields)) → ReadsLines s (record { good = a && (b && (r.good && not d)); fields = r.fields })
-  unfolding ends_head
-  reads_lines a b d line p q l o =
-      let z : b ≡ is_status_line (part_of s 0 e) = q ∙ ap is_status_line l in
-      record {
-        good = rw (p, z, o) lines_kept;
-        fields = λ g.
-            fields_there (sym z ∙ left_holds b (r.good && not d) (right_holds a (b && (r.good && not d)) g))
-            (left_holds r.good (not d) (right_holds b (r.good && not d) (right_holds a (b && (r.good && not d)) g)));
-      }
+    pub no_fields : ReadsFields s ls None → ReadsLines s None
+    no_fields x = record { good = rw (good_lines, ← fields_good None x); fields = tt }
+
+    module _ {g : Fields} (x : ReadsFields s ls (Some g)) where
+      pub doubled_fields : is_protected_doubled (names_of (fields_in s g)) ≡ true → ReadsLines s None
+      doubled_fields h = record { good = rw (good_lines, ← fields_good (Some g) x, ← fields_are g x, h); fields = tt }
+
+      pub lines_read : is_protected_doubled (names_of (fields_in s g)) ≡ false → ReadsLines s (Some g)
+      lines_read h = record { good = rw (good_lines, ← fields_good (Some g) x, ← fields_are g x, h); fields = fields_are g x ∙ fields_there }

@@ -1,26 +1,27 @@
--- The fields that hold parameters, from what each was read as. Assumes nothing.
-use mathlib.Core.Bool.{Bool, true, false, ◌&&◌}
+-- The fields that hold parameters, each by what it was read as. Assumes nothing.
+use mathlib.Core.Bool.{Bool, true, false}
 use mathlib.Core.List.{List}
-use mathlib.Core.Path.{◌≡◌, refl, sym, ap, ◌∙◌}
+use mathlib.Core.Path.{◌≡◌, sym, ◌∙◌}
 use Prim.Native.Nat.{ℕ}
 use lib.Dec.{leb}
 use lib.ListN.{length}
+use Rattle.std.specs.Prelude.{Some, None}
 use Rattle.stream.specs.Fields.{value_of}
 use Rattle.stream.specs.Limits.{name_limit}
 use Rattle.stream.specs.Lines.{Field}
-use Rattle.stream.specs.Signatures.{injection_scan, is_injection, bsigs_scan, is_bsigs, sig0_scan, names_text, is_sig0, split_names, is_name_list, injection_name, bsigs_name, sig0_name}
+use Rattle.stream.specs.Signatures.{injection_scan, is_injection, bsigs_scan, is_bsigs, sig0_scan, names_text, split_names, is_name_list, injection_name, bsigs_name, sig0_name}
 use Rattle.stream.specs.Template.{Scanned}
-use Rattle.stream.proofs.Truth.{left_holds, right_holds}
 use Rattle.places.specs.Place.{part_of}
 use Rattle.params.specs.BlockSigs.{bsigs_of}
 use Rattle.params.specs.HeadSig.{ReadsSig0}
 use Rattle.params.specs.Injection.{injection_of}
-use Rattle.names.specs.NameList.{names_in, ReadsNames}
+use Rattle.params.proofs.Answers.{sig0_says, sig0_good, sig0_names}
+use Rattle.params.proofs.Options.{picked, unpicked}
 use Rattle.params.specs.declared.bsigs.Bsigs.{Bsigs}
 use Rattle.params.specs.declared.injection.Injection.{Injection}
-use Rattle.names.specs.declared.reading.NamesRead.{NamesRead}
 use Rattle.params.specs.declared.sig0.Sig0.{Sig0}
-use Rattle.params.proofs.Answers.{injection_says, bsigs_says, sig0_says, sig0_names}
+use Rattle.names.specs.NameList.{names_in, ReadsNames}
+use Rattle.names.specs.declared.reading.Names.{Names}
 use Rattle.names.proofs.Answers.{names_say, names_are}
 use Rattle.head.specs.Steps.{are_signed, ReadsSigned}
 
@@ -28,47 +29,56 @@ too_long : (fs : List Field) (ns : List (List ℕ)) → leb (length ns) name_lim
 unfolding is_name_list
 too_long fs ns e = rw e
 
--- a list that is too long breaks the rule of the list
-names_kept : (fs : List Field) (list : List ℕ) (r : NamesRead) → ReadsNames list r → r.good && is_name_list fs (names_in list r.names) ≡ is_name_list fs (split_names list)
-names_kept fs list r x = go (leb (length (split_names list)) name_limit) refl
-  where
-    go : (t : Bool) → leb (length (split_names list)) name_limit ≡ t → r.good && is_name_list fs (names_in list r.names) ≡ is_name_list fs (split_names list)
-    go true e = rw (names_say x ∙ e, names_are x e)
-    go false e = rw (names_say x ∙ e, too_long fs (split_names list) e)
+module _ (text : List ℕ) (fs : List Field) where
+  abbrev injection : Scanned
+  injection = injection_scan (value_of injection_name fs)
 
-module _ (text : List ℕ) (fs : List Field) (s : Sig0) (x : ReadsSig0 text (sig0_scan (value_of sig0_name fs)) s) (list : List ℕ) (e : list ≡ part_of text s.names_start s.names_end) (r : NamesRead) (y : ReadsNames list r) where
-  abbrev scanned : Scanned
-  scanned = sig0_scan (value_of sig0_name fs)
+  abbrev bsigs : Scanned
+  bsigs = bsigs_scan (value_of bsigs_name fs)
 
-  list_is : is_sig0 scanned ≡ true → list ≡ names_text scanned
-  list_is g = e ∙ sig0_names x g
+  abbrev sig0 : Scanned
+  sig0 = sig0_scan (value_of sig0_name fs)
 
-  sig0_kept : s.good && (r.good && is_name_list fs (names_in list r.names)) ≡ is_sig0 scanned && is_name_list fs (split_names (names_text scanned))
-  sig0_kept = ap (λ (b : Bool). b && (r.good && is_name_list fs (names_in list r.names))) (sig0_says x) ∙ go (is_sig0 scanned) refl
-    where
-      go : (g : Bool) → is_sig0 scanned ≡ g → g && (r.good && is_name_list fs (names_in list r.names)) ≡ g && is_name_list fs (split_names (names_text scanned))
-      go true q = names_kept fs list r y ∙ ap (λ (l : List ℕ). is_name_list fs (split_names l)) (list_is q)
-      go false q = refl
+  pub no_injection : None ≡ injection_of injection → ReadsSigned text fs None
+  unfolding are_signed injection_of
+  no_injection p = record { good = rw (unpicked (is_injection injection) _ p); says = tt }
 
-  names_there : s.good ≡ true → r.good ≡ true → names_in (names_text scanned) r.names ≡ split_names (names_text scanned)
-  names_there g k =
-      let q : list ≡ names_text scanned = list_is (sym (sig0_says x) ∙ g) in
-      ap (λ (l : List ℕ). names_in l r.names) (sym q) ∙ names_are y (sym (names_say y) ∙ k) ∙ ap split_names q
+  module _ {i : Injection} (p : Some i ≡ injection_of injection) where
+    injection_there : is_injection injection ≡ true
+    unfolding injection_of
+    injection_there = (picked (is_injection injection) _ p).0
 
-  pub signed_reads : (i : Injection) (b : Bsigs) (ok : Bool) → i ≡ injection_of (injection_scan (value_of injection_name fs)) → b ≡ bsigs_of (bsigs_scan (value_of bsigs_name fs))
-      → ok ≡ is_name_list fs (names_in list r.names)
-      → ReadsSigned text fs (record { good = i.good && (b.good && (s.good && (r.good && ok))); injection = i; bsigs = b; sig0 = s; names = r.names })
-  unfolding are_signed
-  signed_reads i b ok p q o =
-      let rest = s.good && (r.good && ok) in
-      let ig : i.good ≡ is_injection (injection_scan (value_of injection_name fs)) = ap (λ (z : Injection). z.good) p ∙ injection_says _ in
-      let bg : b.good ≡ is_bsigs (bsigs_scan (value_of bsigs_name fs)) = ap (λ (z : Bsigs). z.good) q ∙ bsigs_says _ in
-      record {
-        good = rw (ig, bg, o, sig0_kept);
-        injection = p;
-        bsigs = q;
-        sig0 = x;
-        names = λ g.
-            let h : rest ≡ true = right_holds b.good rest (right_holds i.good (b.good && rest) g) in
-            names_there (left_holds s.good (r.good && ok) h) (left_holds r.good ok (right_holds s.good (r.good && ok) h));
-      }
+    pub no_bsigs : None ≡ bsigs_of bsigs → ReadsSigned text fs None
+    unfolding are_signed bsigs_of
+    no_bsigs q = record { good = rw (injection_there, unpicked (is_bsigs bsigs) _ q); says = tt }
+
+    module _ {b : Bsigs} (q : Some b ≡ bsigs_of bsigs) where
+      bsigs_there : is_bsigs bsigs ≡ true
+      unfolding bsigs_of
+      bsigs_there = (picked (is_bsigs bsigs) _ q).0
+
+      pub no_sig0 : ReadsSig0 text sig0 None → ReadsSigned text fs None
+      unfolding are_signed
+      no_sig0 x = record { good = rw (injection_there, bsigs_there, ← sig0_says x); says = tt }
+
+      module _ {s : Sig0} (x : ReadsSig0 text sig0 (Some s)) {list : List ℕ} (e : list ≡ part_of text s.names_start s.names_end) where
+        list_is : list ≡ names_text sig0
+        list_is = e ∙ sig0_names x
+
+        good_by : are_signed fs injection bsigs sig0 ≡ is_name_list fs (split_names list)
+        unfolding are_signed
+        good_by = rw (injection_there, bsigs_there, sig0_good x, list_is)
+
+        pub no_names : ReadsNames list None → ReadsSigned text fs None
+        no_names y = record { good = sym (good_by ∙ too_long fs (split_names list) (sym (names_say None y))); says = tt }
+
+        module _ {n : Names} (y : ReadsNames list (Some n)) {ok : Bool} (o : ok ≡ is_name_list fs (names_in list n)) where
+          pub not_listed : ok ≡ false → ReadsSigned text fs None
+          not_listed h = record { good = rw (good_by, ← names_are n y, ← o, h); says = tt }
+
+          pub all_signed : ok ≡ true → ReadsSigned text fs (Some (record { injection = i; bsigs = b; sig0 = s; names = n }))
+          all_signed h =
+              record {
+                good = rw (good_by, ← names_are n y, ← o, h);
+                says = record { injection = p; bsigs = q; sig0 = x; names = rw list_is at (names_are n y) };
+              }

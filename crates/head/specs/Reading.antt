@@ -1,5 +1,5 @@
 -- What reading a head finds (paper 01, "The head"): the first broken rule, and where none is, what the head says. Assumes nothing.
-use Rattle.std.specs.Prelude.{List, ◌≡◌, ℕ}
+use Rattle.std.specs.Prelude.{List, ◌≡◌, ℕ, Result, Ok, Err, Some}
 use Rattle.stream.specs.Bytes.{same}
 use Rattle.stream.specs.Fields.{value_of}
 use Rattle.stream.specs.Head.{head_of, status_digits, http_status_name, range_of, listed_names, text_rules}
@@ -21,17 +21,18 @@ use Rattle.head.specs.declared.whole.HeadRead.{HeadRead}
 unfoldable pub signed_digits : List ℕ → List Field → List ℕ
 signed_digits digits fs = pick (same digits (octets "206")) (value_of http_status_name fs) digits
 
--- the contents that r keeps, or keeps the places of, are those of the head
+-- a head that breaks no rule, and r keeps its contents, or their places
 pub record Says (text : List ℕ) (r : HeadRead) : Type 0 where
+  pub kept : first_broken (text_rules text (head_of text)) ≡ 0
   pub status : r.status ≡ decimal_value (status_digits (head_of text))
   pub extent : r.extent ≡ extent_of (range_of (head_of text))
   pub fields : fields_in text r.fields ≡ (head_of text).fields
-  pub injection : r.signed.injection ≡ injection_of (head_of text).injection
-  pub bsigs : r.signed.bsigs ≡ bsigs_of (head_of text).bsigs
-  pub sig0 : ReadsSig0 text (head_of text).sig0 r.signed.sig0
+  pub injection : Some r.signed.injection ≡ injection_of (head_of text).injection
+  pub bsigs : Some r.signed.bsigs ≡ bsigs_of (head_of text).bsigs
+  pub sig0 : ReadsSig0 text (head_of text).sig0 (Some r.signed.sig0)
   pub names : names_in (names_text (head_of text).sig0) r.signed.names ≡ listed_names (head_of text)
 
--- 0 says that no rule is broken
-pub record Reads (text : List ℕ) (r : HeadRead) : Type 0 where
-  pub fault : r.fault ≡ first_broken (text_rules text (head_of text))
-  pub says : r.fault ≡ 0 → Says text r
+-- or the number of the first broken rule
+abbrev pub Reads : List ℕ → Result HeadRead ℕ → Type 0
+Reads text (Ok r) = Says text r
+Reads text (Err n) = (n ≡ first_broken (text_rules text (head_of text))) × (n ≡ 0 → ⊥)

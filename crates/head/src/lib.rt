@@ -1,4 +1,4 @@
-// A head read: the table of its fields, what its signature fields say, and the first rule that it breaks.
+// A head read: the table of its fields and what its signature fields say, or the first rule that it breaks.
 #![tactic(auto)]
 
 mod lines; // the status line and the field lines

@@ -19,23 +19,23 @@ pub fn version_fault(text: &[u8], f: Fields) -> u8
     0
 }
 
-// The number that three digits write, if it is a status that may be signed; otherwise 0.
-pub fn status_number(digits: &[u8]) -> u64
+// The number that three digits write, if it is a status that may be signed.
+pub fn status_number(digits: &[u8]) -> Option<u64>
     ensures { result ≡ status_number digits.now }
 {
     if text::same(digits, b"200") {
-        return 200;
+        return Some(200);
     }
     if text::same(digits, b"301") {
-        return 301;
+        return Some(301);
     }
     if text::same(digits, b"302") {
-        return 302;
+        return Some(302);
     }
     if text::same(digits, b"307") {
-        return 307;
+        return Some(307);
     }
-    0
+    None
 }
 
 pub fn is_plain(text: &[u8], f: Fields) -> bool

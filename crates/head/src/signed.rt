@@ -9,11 +9,10 @@ use fields::Fields;
 use names::Names;
 use params::{Bsigs, Injection, Sig0};
 
-// Whether all of them are good, and what each says. The places of `sig0` are places in the head's text; those of `names` are
-// places in the part of it that has the names.
+// What each says. The places of `sig0` are places in the head's text; those of `names` are places in the part of it that has the
+// names.
 #[derive(Clone, Copy)]
 pub struct Signed {
-    pub good: bool,
     pub injection: Injection,
     pub bsigs: Bsigs,
     pub sig0: Sig0,
@@ -21,40 +20,40 @@ pub struct Signed {
 }
 
 // What `X-Ouinet-Sig0` says, with its places in the whole text.
-fn sig0_in(text: &[u8], f: Fields) -> Sig0
+fn sig0_in(text: &[u8], f: Fields) -> Option<Sig0>
     ensures { ReadsSig0 text.now (sig0_scan (value_of sig0_name (fields_in text.now f))) result }
 {
-    let v = fields::find(text, f, b"x-ouinet-sig0");
+    let v = fields::find(text, f, b"x-ouinet-sig0")?;
     let start = v.start;
-    let s = params::read_sig0(places::part(text, start, v.end));
+    let s = params::read_sig0(places::part(text, start, v.end))?;
     let key = s.key;
     let signature = s.signature;
-    Sig0 {
-        good: s.good,
+    Some(Sig0 {
         key,
         signature,
         created_start: start + s.created_start,
         created_end: start + s.created_end,
         names_start: start + s.names_start,
         names_end: start + s.names_end,
-    }
+    })
 }
 
-pub fn read_signed(text: &[u8], f: Fields) -> Signed
+// None where one of them is not good.
+pub fn read_signed(text: &[u8], f: Fields) -> Option<Signed>
     ensures { ReadsSigned text.now (fields_in text.now f) result }
 {
-    let injection = params::read_injection(fields::value_of(text, f, b"x-ouinet-injection"));
-    let bsigs = params::read_bsigs(fields::value_of(text, f, b"x-ouinet-bsigs"));
-    let sig0 = sig0_in(text, f);
+    let injection = params::read_injection(fields::value_of(text, f, b"x-ouinet-injection"))?;
+    let bsigs = params::read_bsigs(fields::value_of(text, f, b"x-ouinet-bsigs"))?;
+    let sig0 = sig0_in(text, f)?;
     let list = places::part(text, sig0.names_start, sig0.names_end);
-    let read = names::read_names(list);
-    let spans = read.names;
-    let listed = read.good & names::is_list(text, f, list, spans);
-    Signed {
-        good: injection.good & (bsigs.good & (sig0.good & listed)),
+    let names = names::read_names(list)?;
+    if !names::is_list(text, f, list, names) {
+        return None;
+    }
+    Some(Signed {
         injection,
         bsigs,
         sig0,
-        names: spans,
-    }
+        names,
+    })
 }

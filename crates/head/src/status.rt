@@ -9,10 +9,9 @@ use crate::plain;
 use fields::Fields;
 use ranges::Extent;
 
-// Whether the rules of the status are kept, and only then the rest says something: the status as a number, and the bytes.
+// The status as a number, and the bytes.
 #[derive(Clone, Copy)]
 pub struct StatusRead {
-    pub good: bool,
     pub number: u64,
     pub extent: Extent,
 }
@@ -35,30 +34,30 @@ pub fn signed_status(text: &[u8], f: Fields) -> &[u8]
     said
 }
 
-// Blocks have `size` bytes.
-pub fn read_status(text: &[u8], f: Fields, size: usize) -> StatusRead
+// Blocks have `size` bytes. None where a rule of the status is not kept.
+pub fn read_status(text: &[u8], f: Fields, size: usize) -> Option<StatusRead>
     ensures { result ≡ status_read (part_of text.now 9 12) (fields_in text.now f) size }
 {
-    let number = plain::status_number(signed_status(text, f));
+    let number = plain::status_number(signed_status(text, f))?;
     if text::same(digits(text), b"206") {
-        return read_part(text, f, size, number != 0);
+        let extent = read_part(text, f, size)?;
+        return Some(StatusRead {
+            number: 206,
+            extent,
+        });
     }
-    StatusRead {
-        good: number != 0,
+    Some(StatusRead {
         number,
         extent: Extent::Whole,
-    }
+    })
 }
 
-// A part answer, and whether the status that it signs is good.
-fn read_part(text: &[u8], f: Fields, size: usize, signed: bool) -> StatusRead
-    ensures { result ≡ part_read (fields_in text.now f) size signed }
+// The bytes that a part answer carries.
+fn read_part(text: &[u8], f: Fields, size: usize) -> Option<Extent>
+    ensures { result ≡ part_read (fields_in text.now f) size }
 {
-    let single = fields::count_of(text, f, b"content-range") == 1;
-    let range = ranges::read(fields::value_of(text, f, b"content-range"), size);
-    StatusRead {
-        good: signed & (single & range.is_some()),
-        number: 206,
-        extent: range.unwrap_or(Extent::Whole),
+    if fields::count_of(text, f, b"content-range") != 1 {
+        return None;
     }
+    ranges::read(fields::value_of(text, f, b"content-range"), size)
 }

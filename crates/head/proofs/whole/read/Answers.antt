@@ -1,6 +1,17 @@
--- What each of the groups of rules was read as, together. Assumes nothing.
-use Rattle.head.proofs.WholeLaws.{head_reads}
+-- The lines, the version and the rest, together. Assumes nothing.
+use Rattle.head.proofs.WholeLaws.{bad_lines, line_there, version_broken, head_reads}
 use Rattle.head.proofs.whole.read.Goals as goal
 
+pub returns-in_default : goal.returns-in_default
+returns-in_default c = bad_lines _ c.in_default.ensures
+
+pub returns-then-version-ne0 : goal.returns-then-version-ne0
+returns-then-version-ne0 c = version_broken _ (rw c.in-Some.is at c.read_lines.ensures) c.version_fault-version.ensures c.if-version-ne0.true
+
+pub read_rest-requires-clause-status_line : goal.read_rest-requires-clause-status_line
+read_rest-requires-clause-status_line c = line_there _ (rw c.in-Some.is at c.read_lines.ensures)
+
 pub returns : goal.returns
-returns c = head_reads _ _ c.read_lines-found.ensures _ c.read_signed-said.ensures _ _ _ _ c.version_fault-version.ensures c.is_plain-compared.ensures c.read_status-status.ensures c.fault.ensures
+returns c =
+    rw c.ok_or.ensures.value
+    (head_reads _ (rw c.in-Some.is at c.read_lines.ensures) c.version_fault-version.ensures c.if-version-ne0.false _ c.read_rest.ensures)
