@@ -7,6 +7,8 @@ use Prim.Native.Nat.{ℕ, ◌≤◌, ◌<◌}
 use native.Mathlib.Omega.{arith}
 use borrow.Author.Tests.{ne_eqb, le-leb, lt-leb}
 use lib.ListN.{length}
+use Rattle.std.specs.Prelude.{Err}
+use Rattle.std.proofs.lemmas.Option.{same_Some}
 use Rattle.octets.specs.Choice.{pick}
 use Rattle.stream.specs.Bytes.{same}
 use Rattle.stream.specs.Fields.{value_of}
@@ -20,9 +22,9 @@ use Rattle.fields.specs.Table.{fields_in}
 use Rattle.params.specs.declared.bsigs.Bsigs.{Bsigs}
 use Rattle.params.specs.declared.injection.Injection.{Injection}
 use Rattle.params.proofs.Answers.{injection_is, bsigs_is, sig0_key}
-use Rattle.head.specs.Reading.{Reads}
+use Rattle.head.specs.Reading.{Reads, Says}
 use Rattle.head.specs.declared.whole.HeadRead.{HeadRead}
-use Rattle.head.proofs.ContentLaws.{rules_kept, injection_good, bsigs_good, sig0_good}
+use Rattle.head.proofs.ContentLaws.{rules_kept, injection_good, bsigs_good}
 use Rattle.judging.specs.Judgement.{judged, none_asked, asked, head_judged}
 
 -- ---- a fault of the text goes before the caller's rules
@@ -50,14 +52,14 @@ is_trusted true none k h = absurd (never k (sym h))
 is_trusted true (some i) k h = (refl, cc)
 is_trusted false o k h = absurd (never k (sym h))
 
-module _ (terms : Terms) (text question : List ℕ) (r : HeadRead) (x : Reads text r) where
-  pub judged_broken : (r.fault ≡ 0 → ⊥) → judged (none_asked r.fault text) question ≡ head_judged terms text question
+module _ (terms : Terms) (text question : List ℕ) where
+  pub judged_broken : (n : ℕ) → Reads text (Err n) → judged (none_asked n text) question ≡ head_judged terms text question
   unfolding head_judged
-  judged_broken h =
-      let e : head_fault terms text ≡ r.fault = fault_first terms text (λ q. h (x.fault ∙ q)) ∙ sym x.fault in
-      rw (e, ne_eqb r.fault 0 h)
+  judged_broken n x =
+      let e : head_fault terms text ≡ n = fault_first terms text (λ q. x.1 (x.0 ∙ q)) ∙ sym x.0 in
+      rw (e, ne_eqb n 0 x.1)
 
-  module _ (z : r.fault ≡ 0) where
+  module _ (r : HeadRead) (x : Says text r) where
     abbrev same_keys : Bool
     same_keys = same r.signed.bsigs.key r.signed.sig0.key
 
@@ -66,15 +68,15 @@ module _ (terms : Terms) (text question : List ℕ) (r : HeadRead) (x : Reads te
 
     block_key_lem : r.signed.bsigs.key ≡ block_key (head_of text)
     unfolding block_key
-    block_key_lem = ap (λ (b : Bsigs). b.key) ((x.says z).bsigs ∙ bsigs_is _ (bsigs_good text r x z))
+    block_key_lem = ap (λ (b : Bsigs). b.key) (same_Some _ _ (x.bsigs ∙ bsigs_is _ (bsigs_good text r x)))
 
     head_key_lem : r.signed.sig0.key ≡ head_key (head_of text)
     unfolding head_key
-    head_key_lem = sig0_key (x.says z).sig0 (sig0_good text r x z)
+    head_key_lem = sig0_key x.sig0
 
     time : r.signed.injection.time ≡ injection_time (head_of text)
     unfolding injection_time
-    time = ap (λ (i : Injection). i.time) ((x.says z).injection ∙ injection_is _ (injection_good text r x z))
+    time = ap (λ (i : Injection). i.time) (same_Some _ _ (x.injection ∙ injection_is _ (injection_good text r x)))
 
     found_is : record_found ≡ trusted_by terms.ring (head_of text)
     unfolding trusted_by
@@ -87,8 +89,8 @@ module _ (terms : Terms) (text question : List ℕ) (r : HeadRead) (x : Reads te
     fault_is : head_fault terms text ≡ pick same_uri (trust_fault same_keys record_found) 16
     unfolding head_fault caller_rules first_broken
     fault_is =
-        rw (found_is, block_key_lem, head_key_lem, (x.says z).fields)
-        (kept_first (text_rules text (head_of text)) (caller_rules terms (head_of text)) (rules_kept text r x z))
+        rw (found_is, block_key_lem, head_key_lem, x.fields)
+        (kept_first (text_rules text (head_of text)) (caller_rules terms (head_of text)) (rules_kept text r x))
 
     pub judged_other : same_uri ≡ false → judged (none_asked 16 text) question ≡ head_judged terms text question
     unfolding head_judged

@@ -5,7 +5,7 @@ ghost use Rattle.std.proofs.Math.Option.{none};
 ghost use Rattle.std.specs.Prelude.{◌≡◌, ◌≤◌, length, Ok};
 ghost use Rattle.octets.specs.Choice.{pick};
 ghost use Rattle.fields.specs.Table.{fields_in};
-ghost use Rattle.head.specs.Reading.{Reads};
+ghost use Rattle.head.specs.Reading.{Says};
 ghost use Rattle.ring.specs.Keys.{found_of, ring_of, terms_of};
 ghost use Rattle.stream.specs.Bytes.{same};
 ghost use Rattle.stream.specs.Fields.{value_of};
@@ -42,10 +42,10 @@ pub struct Asked {
 pub fn judge(text: &[u8], ring: KeyRing, uri: &[u8], question: &mut [u8]) -> Result<Asked, Refusal>
     ensures { judged result question.new ≡ head_judged (terms_of ring uri.now) text.now question.old }
 {
-    let head = head::read(text);
-    if head.fault != 0 {
-        return Err(refused(text, head.fault));
-    }
+    let head = match head::read(text) {
+        Ok(head) => head,
+        Err(number) => return Err(refused(text, number)),
+    };
     if !is_asked_for(text, head.fields, uri) {
         return Err(refused(text, 16));
     }
@@ -88,8 +88,7 @@ fn trusted(ring: KeyRing, s: Signed) -> Option<usize>
 
 // The question of a head that breaks no rule, with a buffer that has room for it.
 fn ask(text: &[u8], head: HeadRead, key: usize, question: &mut [u8]) -> Asked
-    requires reads { Reads text.now head }
-    requires fault_value { head.fault ≡ 0 }
+    requires says { Says text.now head }
     requires text_in_bounds { length text.now ≤ length question.old }
     ensures { judged (Ok result) question.new ≡ asked key (head_of text.now) question.old }
 {

@@ -3,4 +3,4 @@ use Rattle.judging.proofs.AskLaws.{asked_is}
 use Rattle.judging.proofs.ask.Goals as goal
 
 pub returns : goal.returns
-returns c = asked_is _ _ c.requires.reads c.requires.fault_value _ _ _ c.part-list.ensures c.part-created.ensures c.signed_status-status.ensures _ c.requires.text_in_bounds _ _ c.put_string-length.ensures _
+returns c = asked_is _ _ c.requires.says _ _ _ c.part-list.ensures c.part-created.ensures c.signed_status-status.ensures _ c.requires.text_in_bounds _ _ c.put_string-length.ensures _

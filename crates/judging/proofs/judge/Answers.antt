@@ -7,5 +7,5 @@ use Rattle.judging.proofs.judge.Goals as goal
 pub returns-then-question-text : goal.returns-then-question-text
 returns-then-question-text c =
     rw c.refused-then-question-text.ensures
-    (judged_short _ _ _ _ c.read-head.ensures c.if-head-ne0.false (sym c.is_asked_for.ensures ∙ c.if-not-is_asked_for.false) _
+    (judged_short _ _ _ _ c.in-Ok.ensures (sym c.is_asked_for.ensures ∙ c.if-not-is_asked_for.false) _
     (sym (ap found_of c.in-Some.is) ∙ c.trusted.ensures) c.if-question-text.true)
