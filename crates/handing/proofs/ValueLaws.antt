@@ -4,9 +4,10 @@ use mathlib.Core.List.{List, []}
 use mathlib.Core.Path.{◌≡◌, refl, sym, ap, ◌∙◌}
 use Prim.Native.Nat.{ℕ, ◌-◌, ◌≤◌, ◌<◌}
 use native.Mathlib.Nat.{sub-zero}
-use lib.Dec.{eqb, leb}
+use lib.Dec.{leb}
 use lib.ListN.{length, take, drop}
-use borrow.Author.Tests.{eq-eqb, le-leb, lt-leb, eqb-true}
+use borrow.Author.Tests.{ne_eqb, eq-eqb, le-leb, lt-leb}
+use Rattle.std.specs.Prelude.{Result, Ok, Err}
 use Rattle.octets.specs.Choice.{pick}
 use Rattle.stream.specs.Bytes.{same}
 use Rattle.stream.specs.Fields.{among, value_of, values_of, count_of}
@@ -22,33 +23,25 @@ use Rattle.text.proofs.SameLaws.{both_false}
 use Rattle.places.specs.Place.{part_of}
 use Rattle.fields.specs.Table.{fields_in}
 use Rattle.names.specs.NameList.{names_in}
-use Rattle.head.specs.Reading.{Reads}
+use Rattle.head.specs.Reading.{Reads, Says}
 use Rattle.head.specs.declared.whole.HeadRead.{HeadRead}
 use Rattle.head.proofs.ContentLaws.{names_good, names_there}
 use Rattle.handing.specs.Handing.{fields_out, accepted_head, handed_fields, handed_value, handed_count}
 
 -- ---- what was read of a text, and a name that is looked for
 
-module _ (text : List ℕ) (r : HeadRead) (x : Reads text r) where
-  module _ (name list : List ℕ) (e : list ≡ part_of text r.signed.sig0.names_start r.signed.sig0.names_end) where
-    abbrev is_given : Bool
-    is_given = among name (drop 2 (names_in list r.signed.names))
+module _ (text name : List ℕ) where
+  pub none_out : (r : Result HeadRead ℕ) → Reads text r → ((h : HeadRead) → r ≡ Ok h → ⊥) → [] ≡ values_of name (fields_out text)
+  unfolding fields_out values_of
+  none_out (Ok h) x none = absurd (none h refl)
+  none_out (Err n) x none = rw (← x.0, ne_eqb n 0 x.1)
 
-    -- all that the table has of a listed name, where no rule is broken
-    values_out : values_of name (fields_out text) ≡ pick (eqb r.fault 0 && is_given) (values_of name (fields_in text r.fields)) []
+  module _ {r : HeadRead} (x : Says text r) {list : List ℕ} (e : list ≡ part_of text r.signed.sig0.names_start r.signed.sig0.names_end) where
+    -- all that the table has of a listed name, by how the test went
+    pub values_by : {b : Bool} → b ≡ among name (drop 2 (names_in list r.signed.names)) → (t : Bool) → b ≡ t
+        → pick t (values_of name (fields_in text r.fields)) [] ≡ values_of name (fields_out text)
     unfolding fields_out values_of
-    values_out = by (eqb r.fault 0) refl
-      where
-        by : (t : Bool) → eqb r.fault 0 ≡ t → values_of name (fields_out text) ≡ pick (t && is_given) (values_of name (fields_in text r.fields)) []
-        by true t =
-            let z = eqb-true r.fault 0 t in
-            rw (← x.fault, t, (x.says z).fields, names_there text r x z list e)
-            (signed_of_lem (head_of text) name (names_good text r x z))
-        by false t = rw (← x.fault, t) refl
-
-    -- by how the two tests went
-    pub values_by : (b t : Bool) → b ≡ is_given → eqb r.fault 0 && b ≡ t → values_of name (fields_out text) ≡ pick t (values_of name (fields_in text r.fields)) []
-    values_by b t p q = values_out ∙ rw (← p, q)
+    values_by p t q = rw (x.kept, ← q, p, x.fields, names_there text r x list e) (sym (signed_of_lem (head_of text) name (names_good text r x)))
 
 -- ---- the room
 

@@ -39,10 +39,12 @@ pub fn accepted_head(head: &[u8], accepted: usize) -> &[u8]
 fn signed_fields(text: &[u8], name: &[u8]) -> Fields
     ensures { values_of name.now (fields_in text.now result) ≡ values_of name.now (fields_out text.now) }
 {
-    let head = head::read(text);
+    let Ok(head) = head::read(text) else {
+        return fields::none();
+    };
     let signed = head.signed;
     let sig0 = signed.sig0;
     let list = places::part(text, sig0.names_start, sig0.names_end);
-    let given = (head.fault == 0) & names::among(list, signed.names, name, 2);
+    let given = names::among(list, signed.names, name, 2);
     if given { head.fields } else { fields::none() }
 }
