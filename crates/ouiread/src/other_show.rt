@@ -14,8 +14,10 @@ const BEFORE: usize = 40;
 // The URI of the head at the front of the buffer. Its fields go as far as its empty line, so that what lies behind the head is not looked at.
 fn uri_of(head: &[u8]) -> &[u8] {
     let line = text::line_end(head, 0);
-    let read = fields::read_fields(head, line.saturating_add(2).min(head.len()));
-    fields::value_of(head, read.fields, b"x-ouinet-uri")
+    match fields::read_fields(head, line.saturating_add(2).min(head.len())) {
+        Some(table) => fields::value_of(head, table, b"x-ouinet-uri"),
+        None => &head[..0],
+    }
 }
 
 // From which byte on both are shown, so that it is seen where they differ.
