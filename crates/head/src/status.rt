@@ -53,6 +53,7 @@ pub fn read_status(text: &[u8], f: Fields, size: usize) -> Option<StatusRead>
 }
 
 // The bytes that a part answer carries.
+#[tactic(auto, unfolding(crate::specs::Steps::part_read))]
 fn read_part(text: &[u8], f: Fields, size: usize) -> Option<Extent>
     ensures { result ≡ part_read (fields_in text.now f) size }
 {
