@@ -1,14 +1,13 @@
 -- The rules of the end in the groups in which the code tests them. No public contract names these. Assumes nothing.
 use Rattle.std.specs.Prelude.{Bool, ◌&&◌, not, List, ◌≡◌, ℕ, zero, suc, eqb, length, Option, Some, None}
 use Rattle.octets.specs.Choice.{pick}
-use Rattle.end_fields.specs.Reading.{are_once}
+use Rattle.end_fields.specs.Reading.{are_once, are_good}
 use Rattle.end_fields.specs.declared.reading.EndRead.{EndRead}
 use Rattle.stream.specs.Bytes.{same}
-use Rattle.stream.specs.Ends.{digest_name, data_size_name, is_digest, is_data_size, all_fields, ends_in, is_end_list, end_fault}
+use Rattle.stream.specs.Ends.{digest_name, data_size_name, all_fields, ends_in, is_end_list, end_fault}
 use Rattle.stream.specs.Fields.{among}
 use Rattle.stream.specs.Head.{Head, head_of, listed_names}
 use Rattle.stream.specs.Lines.{Field}
-use Rattle.stream.specs.Signatures.{is_sig0}
 use Rattle.ends.specs.Judgement.{Judgement, asked, end_answered}
 
 -- the rules of the list
@@ -17,8 +16,7 @@ is_listed h fs = is_end_list h (ends_in fs) && (not (among digest_name (listed_n
 
 -- all rules that have the number 13
 unfoldable pub is_well_made : Head → List Field → Bool
-is_well_made h fs =
-    are_once fs && (is_digest (ends_in fs).digest && (is_data_size (ends_in fs).data_size && (is_sig0 (ends_in fs).sig1 && is_listed h fs)))
+is_well_made h fs = (are_once fs && are_good fs) && is_listed h fs
 
 -- the first broken rule, by whether those are kept, and each that comes after them
 abbrev pub fault_by : Bool → Bool → Bool → Bool → ℕ
@@ -31,9 +29,7 @@ number_of (suc n) = Some (suc n)
 
 -- by what was read
 unfoldable pub read_fault : EndRead → Bool → ℕ → List ℕ → List ℕ → ℕ
-read_fault e listed total hash key =
-    fault_by (e.once && (e.digest.good && (e.size.good && (e.sig1.good && listed)))) (eqb e.size.value total) (same e.digest.bytes hash)
-    (same e.sig1.key key)
+read_fault e listed total hash key = fault_by listed (eqb e.size total) (same e.digest hash) (same e.sig1.key key)
 
 -- ---- the end that a head l and the trailer t after it claim
 

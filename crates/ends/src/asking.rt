@@ -2,7 +2,7 @@
 ghost use Rattle.std.specs.Prelude.{◌≡◌, ◌≤◌, length, Ok, Some};
 ghost use Rattle.end_fields.specs.Found.{AreLines, both_in};
 ghost use Rattle.end_fields.specs.Reading.{ReadsEnd};
-ghost use Rattle.head.specs.Reading.{Reads};
+ghost use Rattle.head.specs.Reading.{Says};
 ghost use Rattle.ends.specs.Judgement.{judged};
 ghost use Rattle.ends.specs.Steps.{Faultless, asked_after};
 
@@ -18,10 +18,9 @@ pub(crate) fn ask<'a>(
     e: EndRead,
     question: &mut [u8],
 ) -> Asked
-    requires reads { Reads text.now head }
-    requires fault_value { head.fault ≡ 0 }
+    requires says { Says text.now head }
     requires are_lines { AreLines trailer.now }
-    requires reads_end { ReadsEnd (both_in text.now head.fields trailer.now) e }
+    requires reads_end { ReadsEnd (both_in text.now head.fields trailer.now) (Some e) }
     requires faultless { Faultless text.now trailer.now }
     requires text_in_bounds { length text.now ≤ length question.old }
     ensures { judged (Ok (Some result)) question.new ≡ asked_after text.now trailer.now question.old }

@@ -1,19 +1,19 @@
-// The first broken rule of an end that is claimed, by what was read of it.
-ghost use Rattle.std.specs.Prelude.{◌≡◌};
+// The first broken rule of an end that is claimed and was read.
+ghost use Rattle.std.specs.Prelude.{◌≡◌, Some};
 ghost use Rattle.end_fields.specs.Found.{AreLines, both_in};
 ghost use Rattle.end_fields.specs.Reading.{ReadsEnd};
-ghost use Rattle.head.specs.Reading.{Reads};
+ghost use Rattle.head.specs.Reading.{Says};
 ghost use Rattle.ends.specs.Steps.{fault_after, fault_by, number_of, read_fault};
 
 use crate::lists;
 use end_fields::EndRead;
 use head::HeadRead;
 
-// All of 13 is one test, since it has one number; then the size, the digest and the key, in this order.
-fn fault(made: bool, sized: bool, hashed: bool, signed: bool) -> Option<u8>
-    ensures { result ≡ number_of (fault_by made sized hashed signed) }
+// The list, whose rules have one number; then the size, the digest and the key, in this order.
+fn fault(listed: bool, sized: bool, hashed: bool, signed: bool) -> Option<u8>
+    ensures { result ≡ number_of (fault_by listed sized hashed signed) }
 {
-    if !made {
+    if !listed {
         return Some(13);
     }
     if !sized {
@@ -33,10 +33,9 @@ fn fault(made: bool, sized: bool, hashed: bool, signed: bool) -> Option<u8>
 fn read_fault(e: EndRead, listed: bool, total: u64, hash: [u8; 32], key: [u8; 32]) -> Option<u8>
     ensures { result ≡ number_of (read_fault e listed total hash key) }
 {
-    let made = e.once & (e.digest.good & (e.size.good & (e.sig1.good & listed)));
-    let hashed = e.digest.bytes == hash;
+    let hashed = e.digest == hash;
     let signed = e.sig1.key == key;
-    fault(made, e.size.value == total, hashed, signed)
+    fault(listed, e.size == total, hashed, signed)
 }
 
 pub(crate) fn find<'a>(
@@ -47,10 +46,9 @@ pub(crate) fn find<'a>(
     total: u64,
     hash: [u8; 32],
 ) -> Option<u8>
-    requires reads { Reads text.now head }
-    requires fault_value { head.fault ≡ 0 }
+    requires says { Says text.now head }
     requires are_lines { AreLines trailer.now }
-    requires reads_end { ReadsEnd (both_in text.now head.fields trailer.now) e }
+    requires reads_end { ReadsEnd (both_in text.now head.fields trailer.now) (Some e) }
     ensures { result ≡ number_of (fault_after text.now trailer.now total hash) }
 {
     let signed = head.signed;

@@ -1,7 +1,7 @@
 // A trailer judged: its text, and the end of the show that it and the head claim.
 ghost use Rattle.std.specs.Prelude.{◌≡◌};
 ghost use Rattle.end_fields.specs.Found.{AreLines, both_in};
-ghost use Rattle.head.specs.Reading.{Reads};
+ghost use Rattle.head.specs.Reading.{Says};
 ghost use Rattle.ranges.specs.Extent.{range_in};
 ghost use Rattle.stream.specs.Ends.{is_checked};
 ghost use Rattle.ends.specs.Judgement.{judged, trailer_judged};
@@ -34,10 +34,9 @@ pub fn judge<'a>(
         let at = scanning::trailer_place(trailer);
         return Err(Refusal { number: 6, at });
     }
-    let read = head::read(head);
-    if read.fault != 0 {
+    let Ok(read) = head::read(head) else {
         return Err(refusals::plain(13));
-    }
+    };
     if !is_checked(head, read, trailer) {
         return Ok(None);
     }
@@ -63,12 +62,13 @@ fn answer<'a>(
     hash: [u8; 32],
     question: &mut [u8],
 ) -> Result<Option<Asked>, Refusal>
-    requires reads { Reads text.now head }
-    requires fault_value { head.fault ≡ 0 }
+    requires says { Says text.now head }
     requires are_lines { AreLines trailer.now }
     ensures { judged result question.new ≡ answered_after text.now trailer.now total hash question.old }
 {
-    let e = end_fields::read_end(text, head.fields, trailer);
+    let Some(e) = end_fields::read_end(text, head.fields, trailer) else {
+        return Err(refusals::plain(13));
+    };
     if let Some(fault) = faults::find(text, head, trailer, e, total, hash) {
         return Err(refusals::plain(fault));
     }
