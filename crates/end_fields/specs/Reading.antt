@@ -6,6 +6,8 @@ use Rattle.stream.specs.Fields.{value_of}
 use Rattle.stream.specs.Lines.{Field}
 use Rattle.stream.specs.Signatures.{sig0_scan, is_sig0}
 use Rattle.stream.specs.Numbers.{decimal_value}
+use Rattle.end_fields.specs.Texts.{digest_of, data_size_of}
+use Rattle.end_fields.specs.declared.reading.EndParts.{EndParts}
 use Rattle.end_fields.specs.declared.reading.EndRead.{EndRead}
 
 abbrev pub are_once : List Field → Bool
@@ -14,6 +16,13 @@ are_once fs = is_once digest_name fs && (is_once data_size_name fs && is_once si
 -- what each says is good
 abbrev pub are_good : List Field → Bool
 are_good fs = is_digest (value_of digest_name fs) && (is_data_size (value_of data_size_name fs) && is_sig0 (sig0_scan (value_of sig1_name fs)))
+
+-- each by itself, whether or not the others are good
+pub record ReadsParts (fs : List Field) (r : EndParts) : Type 0 where
+  pub once : r.once ≡ are_once fs
+  pub digest : r.digest ≡ digest_of (value_of digest_name fs)
+  pub size : r.size ≡ data_size_of (value_of data_size_name fs)
+  pub sig1 : ReadsSig0 (value_of sig1_name fs) (sig0_scan (value_of sig1_name fs)) r.sig1
 
 pub record Says (fs : List Field) (e : EndRead) : Type 0 where
   pub digest : e.digest ≡ digest_bytes (value_of digest_name fs)

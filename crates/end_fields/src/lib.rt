@@ -6,5 +6,5 @@ mod texts; // what the digest and the size say
 mod reading; // all three
 
 pub use found::{has, is_once, value_of};
-pub use reading::{EndRead, is_claimed, read_end};
+pub use reading::{EndParts, EndRead, is_claimed, read_end};
 pub use texts::{read_data_size, read_digest};

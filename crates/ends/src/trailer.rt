@@ -66,7 +66,7 @@ fn answer<'a>(
     requires are_lines { AreLines trailer.now }
     ensures { judged result question.new ≡ answered_after text.now trailer.now total hash question.old }
 {
-    let Some(e) = end_fields::read_end(text, head.fields, trailer) else {
+    let Some(e) = end_fields::read_end(text, head.fields, trailer).all() else {
         return Err(refusals::plain(13));
     };
     if let Some(fault) = faults::find(text, head, trailer, e, total, hash) {

@@ -10,18 +10,20 @@ use Rattle.stream.specs.Fields.{value_of, count_of}
 use Rattle.stream.specs.Head.{Head, is_partial, signed_status, status_digits, http_status_name, is_status, is_ranged, content_range, range_of, block_size}
 use Rattle.stream.specs.Lines.{Field}
 use Rattle.stream.specs.Numbers.{number_from, decimal_value}
-use Rattle.stream.specs.Range.{content_range_name, is_content_range, range_said, whole}
+use Rattle.stream.specs.Range.{content_range_name, range_scan, is_content_range, range_said, whole}
 use Rattle.stream.proofs.Truth.{same_equal}
-use Rattle.std.specs.Prelude.{Option, Some, None, is_some}
+use Rattle.std.specs.Prelude.{Option, Some, None, is_some, unwrap_or}
+use Rattle.std.proofs.lemmas.Bool.{false≢true, true≢false}
 use Rattle.std.proofs.lemmas.Option.{none-some, same_Some}
-use Rattle.params.proofs.Options.{picked, unpicked}
+use Rattle.params.proofs.Options.{picked, unpicked, is_picked}
 use Rattle.octets.specs.Choice.{pick}
 use Rattle.ranges.specs.Reading.{range_read}
 use Rattle.ranges.specs.Extent.{extent_of}
+use Rattle.ranges.specs.declared.extent.Extent.{Extent}
 use Rattle.ranges.specs.declared.extent.Extent.TheVariants.{Whole}
 use Rattle.head.specs.Reading.{signed_digits}
 use Rattle.head.specs.declared.status.StatusRead.{StatusRead}
-use Rattle.head.specs.Steps.{status_number, part_read, with_part, status_read}
+use Rattle.head.specs.Steps.{status_number, part_read, with_part, part_kept, part_said, status_read, status_said}
 
 -- ---- the text that is signed
 
@@ -36,22 +38,68 @@ module _ (digits : List ℕ) (fs : List Field) where
 
   -- the same, as it was read
   module _ (N : ℕ) {signed : List ℕ} (s : signed ≡ signed_digits digits fs) where
-    pub no_status : None ≡ status_number signed → None ≡ status_read digits fs N
+    pub part_status : {n : Option ℕ} {r : Option StatusRead} → n ≡ status_number signed → same digits (octets "206") ≡ true
+        → r ≡ part_kept (is_some n) fs N → r ≡ status_read digits fs N
     unfolding status_read status_number
-    no_status k = rw (← s, unpicked (is_status signed) _ k)
+    part_status k e x = x ∙ rw (k, is_picked (is_status signed) (decimal_value signed), s, e)
 
-    module _ {n : ℕ} (k : Some n ≡ status_number signed) where
-      number_is : (is_status signed ≡ true) × (n ≡ decimal_value signed)
-      unfolding status_number
-      number_is = picked (is_status signed) _ k
+    pub part_says : same digits (octets "206") ≡ true → part_said fs N ≡ status_said digits fs N
+    unfolding status_said
+    part_says e = rw e
 
-      pub part_status : same digits (octets "206") ≡ true → with_part (part_read fs N) ≡ status_read digits fs N
-      unfolding status_read
-      part_status e = rw (← s, number_is.0, e)
+    module _ {n : Option ℕ} (k : n ≡ status_number signed) (e : same digits (octets "206") ≡ false) where
+      pub whole_says : record { number = unwrap_or n 0; extent = Whole } ≡ status_said digits fs N
+      unfolding status_said
+      whole_says = rw (e, k, s)
 
-      pub whole_status : same digits (octets "206") ≡ false → Some (record { number = n; extent = Whole }) ≡ status_read digits fs N
-      unfolding status_read
-      whole_status e = rw (← s, number_is.0, e, number_is.1, s, ← signed_whole e)
+      pub whole_status : is_some n ≡ true → Some (record { number = unwrap_or n 0; extent = Whole }) ≡ status_read digits fs N
+      unfolding status_read status_number
+      whole_status = by n k
+        where
+          by : (m : Option ℕ) → m ≡ pick (is_status signed) (Some (decimal_value signed)) None → is_some m ≡ true
+              → Some (record { number = unwrap_or m 0; extent = Whole })
+              ≡ pick (is_status (signed_digits digits fs)) (pick (same digits (octets "206")) (with_part (part_read fs N)) (Some (record { number = decimal_value digits; extent = Whole }))) None
+          by None q h = absurd (false≢true h)
+          by (Some m) q h = let p = picked (is_status signed) _ q in rw (← s, p.0, e, p.1, s, ← signed_whole e)
+
+      pub no_status : is_some n ≡ false → None ≡ status_read digits fs N
+      unfolding status_read status_number
+      no_status = by n k
+        where
+          by : (m : Option ℕ) → m ≡ pick (is_status signed) (Some (decimal_value signed)) None → is_some m ≡ false
+              → None ≡ pick (is_status (signed_digits digits fs)) (pick (same digits (octets "206")) (with_part (part_read fs N)) (Some (record { number = decimal_value digits; extent = Whole }))) None
+          by None q h = rw (← s, unpicked (is_status signed) _ q)
+          by (Some m) q h = absurd (true≢false h)
+
+-- ---- a part answer, by the tests that the code makes
+
+module _ (fs : List Field) (N : ℕ) {r : Option Extent} {n : ℕ} (read : r ≡ range_read N (range_scan (value_of content_range_name fs)))
+    (single : n ≡ count_of content_range_name fs) where
+  pub part_good : (signed : Bool) → signed && (is_some r && eqb n 1) ≡ true → Some (record { number = 206; extent = unwrap_or r Whole }) ≡ part_kept signed fs N
+  unfolding part_read
+  part_good signed h = rw (← read, ← single) (by signed r (eqb n 1) h)
+    where
+      by : (s : Bool) (x : Option Extent) (b : Bool) → s && (is_some x && b) ≡ true
+          → Some (record { number = 206; extent = unwrap_or x Whole }) ≡ pick s (with_part (pick b x None)) None
+      by true (Some x) true k = refl
+      by true (Some x) false k = absurd (false≢true k)
+      by true None b k = absurd (false≢true k)
+      by false x b k = absurd (false≢true k)
+
+  pub part_bad : (signed : Bool) → signed && (is_some r && eqb n 1) ≡ false → None ≡ part_kept signed fs N
+  unfolding part_read
+  part_bad signed h = rw (← read, ← single) (by signed r (eqb n 1) h)
+    where
+      by : (s : Bool) (x : Option Extent) (b : Bool) → s && (is_some x && b) ≡ false → None ≡ pick s (with_part (pick b x None)) None
+      by true (Some x) true k = absurd (true≢false k)
+      by true (Some x) false k = refl
+      by true None true k = refl
+      by true None false k = refl
+      by false x b k = refl
+
+  pub part_told : record { number = 206; extent = unwrap_or r Whole } ≡ part_said fs N
+  unfolding part_said
+  part_told = rw (← read)
 
 -- ---- the head's own
 

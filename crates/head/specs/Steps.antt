@@ -1,5 +1,5 @@
 -- The rules of a head in the groups in which the code tests them. No public contract names these. Assumes nothing.
-use Rattle.std.specs.Prelude.{Bool, ◌&&◌, not, List, [], ◌∷◌, ◌≡◌, ℕ, eqb, leb, length, is_some, Option, Some, None, IfSome}
+use Rattle.std.specs.Prelude.{Bool, ◌&&◌, not, List, [], ◌∷◌, ◌≡◌, ℕ, eqb, leb, length, is_some, Option, Some, None, IfSome, unwrap_or}
 use Rattle.octets.specs.Choice.{pick}
 use Rattle.octets.specs.Octets.{octets}
 use Rattle.stream.specs.Bytes.{same, same_name}
@@ -23,7 +23,9 @@ use Rattle.ranges.specs.declared.extent.Extent.{Extent}
 use Rattle.ranges.specs.declared.extent.Extent.TheVariants.{Whole}
 use Rattle.fields.specs.declared.table.Fields.{Fields}
 use Rattle.head.specs.declared.whole.HeadRead.{HeadRead}
+use Rattle.names.specs.declared.reading.Names.{Names}
 use Rattle.head.specs.declared.signed.Signed.{Signed}
+use Rattle.head.specs.declared.signed.SignedParts.{SignedParts}
 use Rattle.head.specs.declared.status.StatusRead.{StatusRead}
 use Rattle.head.specs.Reading.{signed_digits}
 
@@ -70,6 +72,18 @@ pub record ReadsSigned (text : List ℕ) (fs : List Field) (r : Option Signed) :
   pub good : is_some r ≡ are_signed fs (injection_scan (value_of injection_name fs)) (bsigs_scan (value_of bsigs_name fs)) (sig0_scan (value_of sig0_name fs))
   pub says : IfSome r (SignedSays text fs)
 
+-- the names that are listed, where the list is good
+pub record ReadsList (fs : List Field) (sig0 : Scanned) (r : Option Names) : Type 0 where
+  pub good : is_some r ≡ (is_sig0 sig0 && is_name_list fs (split_names (names_text sig0)))
+  pub names : IfSome r (λ n. names_in (names_text sig0) n ≡ split_names (names_text sig0))
+
+-- what each says by itself, whether or not the others are good
+pub record SaysParts (text : List ℕ) (fs : List Field) (r : SignedParts) : Type 0 where
+  pub injection : r.injection ≡ injection_of (injection_scan (value_of injection_name fs))
+  pub bsigs : r.bsigs ≡ bsigs_of (bsigs_scan (value_of bsigs_name fs))
+  pub sig0 : ReadsSig0 text (sig0_scan (value_of sig0_name fs)) r.sig0
+  pub names : ReadsList fs (sig0_scan (value_of sig0_name fs)) r.names
+
 -- ---- the status, with blocks of N bytes
 
 -- the bytes that a part answer carries
@@ -85,6 +99,18 @@ status_read digits fs N =
     pick (is_status (signed_digits digits fs))
     (pick (same digits (octets "206")) (with_part (part_read fs N)) (Some (record { number = decimal_value digits; extent = Whole })))
     None
+
+-- the same, by whether the status that a part answer signs is good
+abbrev pub part_kept : Bool → List Field → ℕ → Option StatusRead
+part_kept signed fs N = pick signed (with_part (part_read fs N)) None
+
+-- what a status says all the same where a rule is not kept
+unfoldable pub part_said : List Field → ℕ → StatusRead
+part_said fs N = record { number = 206; extent = unwrap_or (range_read N (range_scan (value_of content_range_name fs))) Whole }
+
+unfoldable pub status_said : List ℕ → List Field → ℕ → StatusRead
+status_said digits fs N =
+    pick (same digits (octets "206")) (part_said fs N) (record { number = unwrap_or (status_number (signed_digits digits fs)) 0; extent = Whole })
 
 -- ---- all rules
 

@@ -43,9 +43,9 @@ fn read_rest(text: &[u8], table: Fields) -> Option<HeadRead>
     if !plain::is_plain(text, table) {
         return None;
     }
-    let signed = signed::read_signed(text, table)?;
+    let signed = signed::read_signed(text, table).all()?;
     let bsigs = signed.bsigs;
-    let status = status::read_status(text, table, bsigs.size)?;
+    let status = status::read_status(text, table, bsigs.size).ok()?;
     let extent = status.extent;
     Some(HeadRead {
         status: status.number,
