@@ -111,3 +111,21 @@ module _ (text : List ℕ) where
   pub doubled_on : (e : Entry) (es : List Entry) (t : Bool) → t ≡ is_protected (entry_name text e) && among (entry_name text e) (names_of (map (entry_field text) es)) → doubled (e ∷ es) ≡ t || doubled es
   unfolding is_protected_doubled names_of entry_field
   doubled_on e es t h = rw h
+
+  pub among_past : (n : List ℕ) (e : Entry) (es : List Entry) (t : Bool) → t ≡ same_name n (entry_name text e)
+      → among n (names_of (map (entry_field text) (e ∷ es))) ≡ t || among n (names_of (map (entry_field text) es))
+  unfolding among names_of entry_field
+  among_past n e es t h = rw h
+
+  pub none_among : (n : List ℕ) → false ≡ among n (names_of (map (entry_field text) []))
+  unfolding among names_of
+  none_among n = refl
+
+  -- a name that is not protected is compared with none
+  pub compared_on : (e : Entry) (es rest : List Entry) (n : List ℕ) → n ≡ entry_name text e → (is_protected n ≡ true → rest ≡ es) → (is_protected n ≡ false → rest ≡ [])
+      → doubled (e ∷ es) ≡ among n (names_of (map (entry_field text) rest)) || doubled es
+  compared_on e es rest n a h k = doubled_on e es _ (by (is_protected n) refl ∙ ap (λ (m : List ℕ). is_protected m && among m (names_of (map (entry_field text) es))) a)
+    where
+      by : (p : Bool) → is_protected n ≡ p → among n (names_of (map (entry_field text) rest)) ≡ is_protected n && among n (names_of (map (entry_field text) es))
+      by true q = rw (q, h q)
+      by false q = rw (q, k q) (sym (none_among n))

@@ -1,7 +1,6 @@
 // Whether two fields of a head have one name that must not be there twice.
-ghost use Rattle.std.specs.Prelude.{◌&&◌, ◌≡◌, map};
-ghost use Rattle.stream.specs.Fields.{among, is_protected, is_protected_doubled, names_of};
-ghost use Rattle.field_lines.specs.Entries.{entry_field, entry_name};
+ghost use Rattle.std.specs.Prelude.{◌≡◌, [], false, true};
+ghost use Rattle.stream.specs.Fields.{is_protected, is_protected_doubled, names_of};
 ghost use Rattle.fields.specs.Table.{fields_in};
 
 use crate::lookup;
@@ -18,12 +17,16 @@ fn is_protected(name: &[u8]) -> bool
     ours | (sized | coded)
 }
 
-// Whether a field's name is protected, and that of one of the fields after it. Most names are not, and then there is nothing to compare.
-fn is_refused(text: &[u8], field: Entry, others: &[Entry]) -> bool
-    ensures { result ≡ is_protected (entry_name text.now field) && among (entry_name text.now field) (names_of (map (entry_field text.now) others.now)) }
+// The fields that a name is compared with, of those after its own: of a name that is not protected, as most are not, none.
+fn compared<'a>(name: &[u8], others: &'a [Entry]) -> &'a [Entry]
+    ensures protected { is_protected name.now ≡ true → result.now ≡ others.now }
+    ensures free { is_protected name.now ≡ false → result.now ≡ [] }
 {
-    let name = field.name_in(text);
-    is_protected(name) && lookup::is_among(text, name, others)
+    if is_protected(name) {
+        others
+    } else {
+        &others[..0]
+    }
 }
 
 // Every pair of names is compared, up to the first that is refused.
@@ -31,11 +34,17 @@ pub fn is_doubled(text: &[u8], f: Fields) -> bool
     ensures { result ≡ is_protected_doubled (names_of (fields_in text.now f)) }
 {
     let mut left = f.used();
-    'fields: while let Some((first, others)) = left.split_first() {
-        if is_refused(text, *first, others) {
-            return true;
+    'pairs: while let Some((first, others)) = left.split_first() {
+        let name = first.name_in(text);
+        let mut rest = compared(name, others);
+        while let Some((other, more)) = rest.split_first() {
+            if lookup::is_named(text, *other, name) {
+                break 'pairs;
+            }
+            rest = more;
         }
         left = others;
     }
-    false
+    // Some are left where a pair ended the search.
+    !left.is_empty()
 }

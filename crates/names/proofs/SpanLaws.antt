@@ -51,6 +51,14 @@ module _ (l : List ℕ) where
   unfolding is_doubled
   doubled_on s spans t h = rw h
 
+  pub among_past : (n : List ℕ) (s : Span) (spans : List Span) (t : Bool) → t ≡ same_name n (span_bytes l s) → among n (names_of (s ∷ spans)) ≡ t || among n (names_of spans)
+  unfolding among
+  among_past n s spans t h = rw h
+
+  pub none_among : (n : List ℕ) → among n (names_of []) ≡ false
+  unfolding among
+  none_among n = refl
+
 -- ---- one span more
 
 abbrev pub first_names : List ℕ → List Span → ℕ → List (List ℕ)
