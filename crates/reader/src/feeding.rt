@@ -18,8 +18,9 @@ fn not_due(r: Reader) -> Stepped
     state::said(Word::Refused(refusals::plain(1)), r)
 }
 
-// One byte, by the phase.
+// One byte, by the phase. Inside the loop of `take`, so that the reader is not copied in and out for each byte.
 // Kept (DESIGN-PASS 7): the phase is what C keeps between calls, so the step is found from it, by a match that leaves no phase out.
+#[inline(always)]
 #[tactic(auto, unfolding(crate::specs::Feed::push_at))]
 fn push(
     r: Reader,
