@@ -2,10 +2,27 @@
 use crate::faults::Fault;
 use crate::files;
 use std::fs::File;
-use std::io::{BufReader, Read, Seek};
+use std::io::{BufRead, BufReader, Seek};
 
 // So many bytes are read ahead at most.
 const AHEAD: usize = 512;
+
+// Whether a byte is passed over: white space is, and where all answers are gone over, they are too.
+fn is_passed(b: u8, all: bool) -> bool {
+    let blank = (b == b' ') | (b == b'\t') | (b == b'\n') | (b == b'\x0c') | (b == b'\r');
+    blank | (all & ((b == b'y') | (b == b'n')))
+}
+
+// How many bytes at the front are passed over. Mostly all are, and one test of all of them is the quicker.
+fn passed(bytes: &[u8], all: bool) -> usize {
+    if bytes
+        .iter()
+        .fold(true, |so_far, b| so_far & is_passed(*b, all))
+    {
+        return bytes.len();
+    }
+    bytes.iter().take_while(|b| is_passed(**b, all)).count()
+}
 
 // The open file and its name, and the line that is read.
 #[derive(Drop)]
@@ -22,7 +39,9 @@ impl<'a> Answers<'a> {
         let mut file = files::open(rt, name)?;
         let is_file = file.rewind().is_ok();
         let ahead = BufReader::with_capacity(rt.alloc(), AHEAD, file);
-        let file = ahead.map_err(|why| Fault::Unopened(name, why))?;
+        let Ok(file) = ahead else {
+            return Err(Fault::OutOfMemory);
+        };
         let mut answers = Answers {
             name,
             file,
@@ -36,10 +55,8 @@ impl<'a> Answers<'a> {
 
     // Reads all answers, and goes back to the first.
     fn go_over(&mut self) -> Result<(), Fault<'a>> {
-        for _ in 0..u64::MAX {
-            if self.next_answer()?.is_none() {
-                break;
-            }
+        if self.next_letter(true)?.is_some() {
+            return Err(self.wrong());
         }
         let _ = self.file.rewind();
         self.line = 1;
@@ -48,22 +65,41 @@ impl<'a> Answers<'a> {
 
     // The next answer, where one is left.
     pub fn next_answer(&mut self) -> Result<Option<bool>, Fault<'a>> {
-        for byte in self.file.by_ref().bytes() {
-            match byte {
-                Ok(b'y') => return Ok(Some(true)),
-                Ok(b'n') => return Ok(Some(false)),
-                Ok(b'\n') => self.line = self.line.saturating_add(1),
-                Ok(b) if b.is_ascii_whitespace() => {}
-                Ok(_) => {
-                    return Err(Fault::Malformed {
-                        name: self.name,
-                        line: self.line,
-                        form: "an answer is y or n",
-                    });
-                }
-                Err(_) => return Err(Fault::Unread(self.name)),
+        match self.next_letter(false)? {
+            None => Ok(None),
+            Some(b'y') => Ok(Some(true)),
+            Some(b'n') => Ok(Some(false)),
+            Some(_) => Err(self.wrong()),
+        }
+    }
+
+    // The first byte that is not passed over, if there is one; the file goes on behind it.
+    fn next_letter(&mut self, all: bool) -> Result<Option<u8>, Fault<'a>> {
+        for _ in 0..u64::MAX {
+            let ahead = match self.file.fill_buf() {
+                Ok(ahead) => ahead,
+                Err(why) => return Err(Fault::of_read(self.name, &why)),
+            };
+            if ahead.is_empty() {
+                break;
+            }
+            let count = passed(ahead, all);
+            let lines = ahead.iter().take(count).filter(|b| **b == b'\n').count();
+            let letter = ahead.get(count).copied();
+            self.line = self.line.saturating_add(lines as u64);
+            self.file.consume(count.saturating_add(1));
+            if letter.is_some() {
+                return Ok(letter);
             }
         }
         Ok(None)
+    }
+
+    fn wrong(&self) -> Fault<'a> {
+        Fault::Malformed {
+            name: self.name,
+            line: self.line,
+            form: "an answer is y or n",
+        }
     }
 }

@@ -2,6 +2,9 @@
 use std::alloc::AllocError;
 use std::env::{Env, FillError};
 
+// No more than nine are ever right: of a longer list so many tell that it is not.
+const MOST: usize = 10;
+
 // So many bytes of an argument are held; the name of a file that can be opened has fewer.
 const WORD_ROOM: usize = 4096;
 
@@ -16,10 +19,10 @@ fn word(rt: &HostRuntime, i: usize) -> Result<Option<Vec<u8>>, AllocError> {
     Ok(Some(room[..length].to_vec(rt.alloc())?))
 }
 
-// All behind the program's name.
+// Those behind the program's name, as many as are looked at.
 pub fn words(rt: &HostRuntime) -> Result<Vec<Vec<u8>>, AllocError> {
     let mut all = Vec::new(rt.alloc());
-    for i in 1..usize::MAX {
+    for i in 1..=MOST {
         let Some(word) = word(rt, i)? else {
             break;
         };

@@ -1,7 +1,11 @@
 // What is wrong with a file, or with standard output, each told in a line on standard error.
+ghost use Rattle.std.specs.Prelude.{◌≡◌, ◌≢◌};
+ghost use Rattle.std.specs.IoError.{error_kind};
+
 use std::alloc::{AllocError, AllocFailed};
 use std::fmt::Display;
 use std::io;
+use std::io::ErrorKind;
 
 // Why the program goes no further. A file has its name.
 #[derive(Drop)]
@@ -20,6 +24,20 @@ pub enum Fault<'a> {
     // Nor does standard output.
     Lost,
     OutOfMemory,
+}
+
+impl<'a> Fault<'a> {
+    // Why a read of the file failed: memory had no room for what came, or the file cannot be read.
+    pub fn of_read(name: &'a [u8], why: &io::Error) -> Fault<'a>
+        ensures memory { error_kind why.now ≡ ErrorKind.OutOfMemory → result ≡ Fault.OutOfMemory }
+        ensures file { error_kind why.now ≢ ErrorKind.OutOfMemory → result ≡ Fault.Unread name.entry }
+    {
+        if why.kind() == ErrorKind::OutOfMemory {
+            Fault::OutOfMemory
+        } else {
+            Fault::Unread(name)
+        }
+    }
 }
 
 impl From<AllocError> for Fault<'_> {

@@ -36,6 +36,6 @@ pub fn load<'a>(rt: &HostRuntime, name: &'a [u8], most: u64) -> Result<Vec<u8>, 
     let mut text = Vec::new(rt.alloc());
     match file.take(most).read_to_end(&mut text) {
         Ok(_) => Ok(text),
-        Err(_) => Err(Fault::Unread(name)),
+        Err(why) => Err(Fault::of_read(name, &why)),
     }
 }
