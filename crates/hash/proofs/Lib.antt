@@ -1,4 +1,5 @@
 pub mod ByteLaws
+pub mod DigitLaws
 pub mod BlockLaws
 pub mod LastLaws
 pub mod DigestLaws

@@ -1,4 +1,4 @@
--- What the private functions' contracts name: parts of the hash that the code does by themselves. No public contract names these. Assumes nothing.
+-- Parts of the hash that the code does by themselves, as contracts name them: those of private functions, and of `compress_all` and `close`. Assumes nothing.
 use Rattle.std.specs.Prelude.{ℕ, ◌+◌, List, ◌∷◌, ◌++◌, length, take, drop, replicate, slice_index}
 use Rattle.hash.specs.Sha2.{Variant, big_endian, zeros, round, unparsed, hashed, blocks}
 

@@ -2,7 +2,7 @@
 -- Assumes nothing.
 use mathlib.Core.Path.{◌≡◌, refl, ap, ◌∙◌}
 use mathlib.Core.Bool.{Bool, true, false, ◌&&◌}
-use mathlib.Core.List.{List, [], ◌∷◌}
+use mathlib.Core.List.{List, [], ◌∷◌, ◌++◌}
 use Prim.Native.Nat.{ℕ, suc, ◌+◌, ◌-◌, ◌≤◌, ◌<◌}
 use native.Mathlib.Nat.{suc-add, add_assoc, add-sub_cancel_left, sub_self}
 use native.Mathlib.Numerals.{add-one}
@@ -14,7 +14,7 @@ use Rattle.stream.specs.Bytes.{same}
 use Rattle.stream.specs.Lines.{crlf, ends_with, in_front, lines, before_empty, text_lines}
 use Rattle.stream.specs.Template.{starts_with}
 use Rattle.text.specs.Line.{line_length}
-use Rattle.text.proofs.SameLaws.{both_true, both_false, eqb_sym, starts_longer}
+use Rattle.text.proofs.SameLaws.{both_true, both_false, eqb_sym, starts_longer, starts_append}
 
 -- ---- CR LF at a place
 
@@ -34,6 +34,12 @@ ends_starts t l = rw (take_all (length t) (drop (length l - length t) l) (omega 
 
 pub ends_short : (t l : List ℕ) → length l < length t → ends_with t l ≡ false
 ends_short t l h = ends_starts t l ∙ starts_longer t (drop (length l - length t) l) (omega (arith, length-drop (length l - length t) l))
+
+-- two line ends, one by one
+pub ends_twice : (s : List ℕ) → 4 ≤ length s → ends_with (crlf ++ crlf) s ≡ starts_with crlf (drop (length s - 4) s) && starts_with crlf (drop (length s - 2) s)
+ends_twice s h =
+    let e : length s - 4 + 2 ≡ length s - 2 = omega arith in
+    ends_starts (crlf ++ crlf) s ∙ starts_append crlf crlf (drop (length s - 4) s) ∙ rw (drop-drop 2 (length s - 4) s, e)
 
 -- ---- how long a line is
 

@@ -1,7 +1,7 @@
 -- Byte strings compared: what stands at a place of a text, and two names side by side. Assumes nothing.
 use mathlib.Core.Path.{◌≡◌, refl, sym, ap, ◌∙◌}
 use mathlib.Core.Bool.{Bool, true, false, ◌&&◌}
-use mathlib.Core.List.{List, [], ◌∷◌}
+use mathlib.Core.List.{List, [], ◌∷◌, ◌++◌}
 use Prim.Native.Nat.{ℕ, suc, ◌+◌, ◌≤◌, ◌<◌}
 use native.Mathlib.Numerals.{add-one}
 use native.Mathlib.Omega.{arith}
@@ -92,3 +92,11 @@ module _ (a b : List ℕ) (i x y : ℕ) (h : i < length a) (j : i < length b) (f
 pub names_out : (a b : List ℕ) (i : ℕ) → length a ≤ i → length b ≤ i → (so_far : Bool) → so_far && same_name (drop i a) (drop i b) ≡ so_far
 unfolding same_name lowered same
 names_out a b i h j so_far = rw (drop_of_length-le a, drop_of_length-le b) (both_true so_far)
+
+-- ---- one text after another
+
+pub starts_append : (t u l : List ℕ) → starts_with (t ++ u) l ≡ starts_with t l && starts_with u (drop (length t) l)
+unfolding starts_with same
+starts_append [] u l = refl
+starts_append (x ∷ t) u [] = refl
+starts_append (x ∷ t) u (y ∷ l) = ap (λ (b : Bool). eqb x y && b) (starts_append t u l) ∙ both_assoc (eqb x y) (starts_with t l) (starts_with u (drop (length t) l))
