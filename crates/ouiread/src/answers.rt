@@ -9,8 +9,7 @@ const AHEAD: usize = 512;
 
 // Whether a byte is passed over: white space is, and where all answers are gone over, they are too.
 fn is_passed(b: u8, all: bool) -> bool {
-    let blank = (b == b' ') | (b == b'\t') | (b == b'\n') | (b == b'\x0c') | (b == b'\r');
-    blank | (all & ((b == b'y') | (b == b'n')))
+    b.is_ascii_whitespace() | (all & ((b == b'y') | (b == b'n')))
 }
 
 // How many bytes at the front are passed over. Mostly all are, and one test of all of them is the quicker.
