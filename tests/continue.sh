@@ -328,7 +328,7 @@ done
 go_on changed.oui
 expect 'other bytes in a whole answer' ended 2 'this is another show than that in got: it has the same id, but other bytes from byte 7000'
 expect 'it changes nothing' is_kept
-# The hash is random, and may begin with any letter of base64: A becomes B, and another A.
+# The hash is random, and may begin with any letter of base64: an A becomes a B, and any other letter an A.
 oui-sign part large.oui --from 8000 | LC_ALL=C sed -e 's/;ouihash=A/;ouihash=B/' -e t -e 's/;ouihash=./;ouihash=A/' | go_on
 expect 'another hash to begin with' ended 1 'refused 10: a signature is wrong'
 expect 'which changes nothing' is_kept
